@@ -1,4 +1,5 @@
 -- Each call's outcome, from what its parts have computed. Assumes nothing.
+use Rattle.std.proofs.Common.{Err, Ok, None}
 use Prim.Native.Nat.{ℕ, ◌%◌, ◌<◌}
 use mathlib.Core.Path.{◌≡◌, refl, sym, ap, ◌∙◌}
 use mathlib.Core.Bool.{Bool, true, not, cond, ◌&&◌}
@@ -14,8 +15,7 @@ use Rattle.units.specs.State.{marked_unit, unit_in, unit_set, units_from}
 use Rattle.units.specs.declared.Mark.{Mark as UnitMark}
 use Rattle.units.specs.declared.Units.{Units}
 use Rattle.channels.specs.declared.Channel.{Channel}
-use Rattle.channels.specs.declared.Fitted.{Fitted}
-use Rattle.channels.specs.declared.Fitted.TheVariants.{Nothing}
+use Rattle.packets.specs.State.{Fitting}
 use Rattle.packets.proofs.Laws.{and_left, passes}
 use Rattle.packets.specs.Rules.{Call, Take, accept, always, answer, closed, closing, cut, first, fresh_job, leaving, reaches, refusal, return_if_done}
 use Rattle.packets.proofs.ByNumber.{End, Mark}
@@ -31,8 +31,7 @@ use Rattle.packets.specs.declared.Lists.{Lists}
 use Rattle.packets.specs.declared.Packet.{Packet}
 use Rattle.packets.specs.declared.RequestList.{RequestList}
 use Rattle.packets.specs.declared.Spot.TheVariants.{OnUnit}
-use Rattle.packets.specs.declared.Verdict.{Verdict}
-use Rattle.packets.specs.declared.Verdict.TheVariants.{Denied, Granted}
+use Rattle.packets.specs.State.{Verdict}
 use Rattle.packets_queue.proofs.Relist.{listed-is}
 use Rattle.packets_queue.specs.Keeping.{Relisted}
 use Rattle.packets_queue.specs.Padded.{list_of, padded}
@@ -43,11 +42,11 @@ use Rattle.lists.specs.Outcomes.{leaves, lists_of, outcome, settled, state_of}
 -- ---- refused and accepted calls
 
 module _ (r : Lists) (x : Call) where
-  pub refused-is : (n : Refusal) → refusal (state_of r) x ≡ Denied n → ◌≡◌ {A = Acted} (record { lists = r; answer = Refused n }) (outcome r x)
+  pub refused-is : (n : Refusal) → refusal (state_of r) x ≡ Err n → ◌≡◌ {A = Acted} (record { lists = r; answer = Refused n }) (outcome r x)
   unfolding outcome
   refused-is n e = sym (ap (settled r x) e)
 
-  pub granted-is : refusal (state_of r) x ≡ Granted → (next : Lists) (a : Answer) → next ≡ leaves r x → a ≡ answer (state_of r) x
+  pub granted-is : refusal (state_of r) x ≡ Ok tt → (next : Lists) (a : Answer) → next ≡ leaves r x → a ≡ answer (state_of r) x
       → ◌≡◌ {A = Acted} (record { lists = next; answer = a }) (outcome r x)
   unfolding outcome
   granted-is e next a p q = rw (p, q) (sym (ap (settled r x) e))
@@ -59,7 +58,7 @@ small_is j t = let h : j < 16 = ltb-true j 16 t in omega arith
 
 -- ---- a channel's number, taken below 16
 
-pub on-is : (channels : List Channel) (c : ℕ) (on : Channel) → on ≡ get_or channels (c % 16) (record { has = Nothing })
+pub on-is : (channels : List Channel) (c : ℕ) (on : Channel) → on ≡ get_or channels (c % 16) (record { has = None })
     → (ltb c 16 && is_there_of on.has) ≡ configured channels c
 unfolding configured fitted_on
 on-is channels c on e = by_bool (ltb c 16) (λ t. rw (t, e, small_is c t)) (λ t. rw t)
@@ -75,12 +74,12 @@ relisted-is r full j ps left R =
 
 module _ (r : Lists) (j : ℕ) (err : Bool) where
   pub end-verdict : (v : Verdict) → v
-      ≡ first (not (ltb j 16)) OutOfRange (first (not (is_running (get_or r.jobs (j % 16) no_job).state)) NoJob Granted)
+      ≡ first (not (ltb j 16)) OutOfRange (first (not (is_running (get_or r.jobs (j % 16) no_job).state)) NoJob (Ok tt))
       → refusal (state_of r) (End j err) ≡ v
   unfolding refusal state_in
   end-verdict v e = by_bool (ltb j 16) (λ t. rw (e, t, small_is j t)) (λ t. rw (e, t))
 
-  module _ (size : length r.jobs ≡ 16) (granted : refusal (state_of r) (End j err) ≡ Granted) where
+  module _ (size : length r.jobs ≡ 16) (granted : refusal (state_of r) (End j err) ≡ Ok tt) where
     small : j < 16
     unfolding refusal
     small = ltb-true j 16 (not-false (ltb j 16) (passes (not (ltb j 16)) OutOfRange _ granted).0)
@@ -125,12 +124,12 @@ module _ (r : Lists) (j : ℕ) (err : Bool) where
 -- ---- taking a job
 
 module _ (r : Lists) (j : ℕ) (asg : Assignment) where
-  pub take-verdict : (v : Verdict) → v ≡ first (not (ltb j 16 && is_empty (get_or r.jobs (j % 16) no_job).state)) NoPlaceFree Granted
+  pub take-verdict : (v : Verdict) → v ≡ first (not (ltb j 16 && is_empty (get_or r.jobs (j % 16) no_job).state)) NoPlaceFree (Ok tt)
       → refusal (state_of r) (Take j asg) ≡ v
   unfolding refusal state_in
   take-verdict v e = by_bool (ltb j 16) (λ t. rw (e, t, small_is j t)) (λ t. rw (e, t))
 
-  pub take-is : refusal (state_of r) (Take j asg) ≡ Granted
+  pub take-is : refusal (state_of r) (Take j asg) ≡ Ok tt
       → (job : Job) → job ≡ fresh_job asg
       → (units : Units) → units ≡ units_from (take_all r.units.of j (wanted asg))
       → ◌≡◌ {A = Acted}
@@ -153,17 +152,17 @@ module _ (r : Lists) (j : ℕ) (asg : Assignment) where
     where
       small : ltb j 16 ≡ true
       small = unfold refusal in
-          and_left (ltb j 16) _ (not-false _ (passes (not (ltb j 16 && is_empty (state_in r.jobs j))) NoPlaceFree Granted granted).0)
+          and_left (ltb j 16) _ (not-false _ (passes (not (ltb j 16 && is_empty (state_in r.jobs j))) NoPlaceFree (Ok tt) granted).0)
 
 -- ---- marks
 
 module _ (r : Lists) (c u : ℕ) (m : UnitMark) (on : Bool) where
-  pub mark-verdict : (has : Fitted) → has ≡ fitted_on r.channels c → (v : Verdict)
-      → v ≡ first (not (ltb c 16 && reaches has (OnUnit (record { 0 = u })))) OutOfRange Granted → refusal (state_of r) (Mark c u m on) ≡ v
+  pub mark-verdict : (has : Fitting) → has ≡ fitted_on r.channels c → (v : Verdict)
+      → v ≡ first (not (ltb c 16 && reaches has (OnUnit (record { 0 = u })))) OutOfRange (Ok tt) → refusal (state_of r) (Mark c u m on) ≡ v
   unfolding refusal
   mark-verdict has h v e = rw (e, h)
 
-  pub mark-is : refusal (state_of r) (Mark c u m on) ≡ Granted
+  pub mark-is : refusal (state_of r) (Mark c u m on) ≡ Ok tt
       → (units : Units) → units ≡ units_from (unit_set r.units.of c u (marked_unit m on (unit_in r.units.of c u)))
       → ◌≡◌ {A = Acted} (record {
         lists = record { channels = r.channels; codes = r.codes; jobs = r.jobs; list = r.list; moving = r.moving; units = units };

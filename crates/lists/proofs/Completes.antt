@@ -1,4 +1,5 @@
 -- A completion's outcome, from what its parts have computed. Assumes nothing.
+use Rattle.std.proofs.Common.{None, Ok, Some}
 use Prim.Native.Nat.{ℕ, ◌%◌, ◌<◌}
 use mathlib.Core.Path.{◌≡◌, refl, sym, ap, ◌∙◌}
 use mathlib.Core.Bool.{Bool, true, false, not, cond, ◌&&◌, ◌||◌}
@@ -13,7 +14,6 @@ use Rattle.units.specs.State.{is_returning, units_from}
 use Rattle.units.specs.declared.Unit.{Unit as UnitState}
 use Rattle.units.specs.declared.Units.{Units}
 use Rattle.channels.specs.declared.Channel.{Channel}
-use Rattle.channels.specs.declared.Fitted.TheVariants.{Nothing}
 use Rattle.packets.proofs.Laws.{and_left, and_right, neither, passes}
 use Rattle.packets.specs.Rules.{accept, answer, is_at, broken, code_for, completed, completes, failed, finished, first}
 use Rattle.packets.specs.Rules.{free_if_returning, is_trouble, is_wrong, leaving, over, refusal, return_if_done}
@@ -29,16 +29,14 @@ use Rattle.packets.specs.declared.Ending.{Ending}
 use Rattle.packets.specs.declared.How.{How}
 use Rattle.packets.specs.declared.Job.{Job}
 use Rattle.packets.specs.declared.Lists.{Lists}
-use Rattle.packets.specs.declared.Motion.{Motion}
-use Rattle.packets.specs.declared.Motion.TheVariants.{Busy, Idle}
+use Rattle.packets.specs.State.{Motion}
 use Rattle.packets.specs.declared.Packet.{Packet}
 use Rattle.packets.specs.declared.RequestList.{RequestList}
 use Rattle.packets.specs.declared.Site.{Site}
 use Rattle.packets.specs.declared.Site.TheVariants.{AtAddress, AtUnit}
 use Rattle.packets.specs.declared.Status.{Status}
 use Rattle.packets.specs.declared.Status.TheVariants.{Blank, Ended, InProgress, Listed, Stopping}
-use Rattle.packets.specs.declared.Verdict.{Verdict}
-use Rattle.packets.specs.declared.Verdict.TheVariants.{Granted}
+use Rattle.packets.specs.State.{Verdict}
 use Rattle.packets_queue.specs.Padded.{list_of, padded}
 use Rattle.packets_job.specs.Aims.{status_set}
 use Rattle.packets_end.specs.Over.{broken_for, ending_of, over_job}
@@ -72,26 +70,26 @@ module _ (s : State) (c j p : ℕ) (how : How) (h : j < length s.jobs) where
   abbrev at : Site
   at = (get_or job.packets p blank).at
 
-  over-is : over s c j p (code_for how) ≡ focus (move s c Idle) j (with_packets job ended) (relist j ended s.queue)
+  over-is : over s c j p (code_for how) ≡ focus (move s c None) j (with_packets job ended) (relist j ended s.queue)
   unfolding packet_in
   over-is =
       let q = with_status (get_or job.packets p blank) (Ended (code_for how)) in
-      ap (λ (z : State). store z j p q) (focus-self (move s c Idle) j) ∙ focus-store (move s c Idle) j h job s.queue p q
+      ap (λ (z : State). store z j p q) (focus-self (move s c None) j) ∙ focus-store (move s c None) j h job s.queue p q
 
   broken-is : broken (over s c j p (code_for how)) c at j
-      ≡ focus (reunit (move s c Idle) (set_lock s.units c at true)) j (with_packets job (map (restatus (is_at c at) failed) ended))
+      ≡ focus (reunit (move s c None) (set_lock s.units c at true)) j (with_packets job (map (restatus (is_at c at) failed) ended))
       (relist j (map (restatus (is_at c at) failed) ended) s.queue)
   broken-is =
       let qs = map (restatus (is_at c at) failed) ended in
       ap (λ (z : State). lock z c at true)
       (ap (λ (z : State). sweep z j (is_at c at) failed) over-is
-      ∙ focus-sweep (move s c Idle) j h (with_packets job ended) (relist j ended s.queue) (is_at c at) failed
-      ∙ ap (focus (move s c Idle) j (with_packets job qs)) (relist-twice j ended qs (fewer-map ended (is_at c at) failed failed-listed) s.queue))
+      ∙ focus-sweep (move s c None) j h (with_packets job ended) (relist j ended s.queue) (is_at c at) failed
+      ∙ ap (focus (move s c None) j (with_packets job qs)) (relist-twice j ended qs (fewer-map ended (is_at c at) failed failed-listed) s.queue))
 
   -- what a completion leaves before facilities return
   pub finished-is : let b = is_trouble s.codes how && is_unit at in
       let after = over_job job p how c b in
-      finished s c how j p ≡ focus (reunit (move s c Idle) (cond b (set_lock s.units c at true) s.units)) j after
+      finished s c how j p ≡ focus (reunit (move s c None) (cond b (set_lock s.units c at true) s.units)) j after
       (relist j after.packets s.queue)
   unfolding packet_in
   finished-is =
@@ -100,43 +98,43 @@ module _ (s : State) (c j p : ℕ) (how : How) (h : j < length s.jobs) where
       (λ t. rw t over-is)
 
 -- what moves is a packet of the cell, read by its place and number
-busy : (m : Motion) → is_idle m ≡ false → (m ≡ Busy (place_in m) (packet_no m)) × (place_in m < 16)
-busy Idle i = never {b = true} refl i
-busy (Busy a b) i = (refl, ltb-true a 16 (and_left (ltb a 16) _ (not-false _ i)))
+busy : (m : Motion) → is_idle m ≡ false → (m ≡ Some (place_in m, packet_no m)) × (place_in m < 16)
+busy None i = never {b = true} refl i
+busy (Some (a, b)) i = (refl, ltb-true a 16 (and_left (ltb a 16) _ (not-false _ i)))
 
 same : (s : State) (m : Motion) → is_idle m ≡ false
     → (get_or (get_or s.jobs (place_in m % 16) no_job).packets (packet_no m) blank).status ≡ moving_status s m
 unfolding packet_in
-same s Idle i = never {b = true} refl i
-same s (Busy j p) i = let k : j % 16 ≡ j = small_is j (and_left (ltb j 16) _ (not-false _ i)) in rw k
+same s None i = never {b = true} refl i
+same s (Some (j, p)) i = let k : j % 16 ≡ j = small_is j (and_left (ltb j 16) _ (not-false _ i)) in rw k
 
-module _ (r : Lists) (c : ℕ) (how : How) (m : Motion) (is : m ≡ (get_or r.moving (c % 16) (carrying Idle)).motion)
+module _ (r : Lists) (c : ℕ) (how : How) (m : Motion) (is : m ≡ (get_or r.moving (c % 16) (carrying None)).motion)
     (j p : ℕ) (ji : j ≡ place_in m) (pi : p ≡ packet_no m) (q : Packet) (qi : q ≡ get_or (get_or r.jobs (j % 16) no_job).packets p blank) where
-  pub complete-verdict : (on : Channel) → on ≡ get_or r.channels (c % 16) (record { has = Nothing }) → (v : Verdict)
+  pub complete-verdict : (on : Channel) → on ≡ get_or r.channels (c % 16) (record { has = None }) → (v : Verdict)
       → v ≡ first (not (ltb c 16 && is_there_of on.has)) OutOfRange
-      (first (is_idle m) NothingInProgress (first (is_wrong q.status how) WrongCompletion Granted))
+      (first (is_idle m) NothingInProgress (first (is_wrong q.status how) WrongCompletion (Ok tt)))
       → refusal (state_of r) (Complete c how) ≡ v
   unfolding refusal
   complete-verdict on oi v e =
       by_bool (configured r.channels c)
       (λ t. let h = configured-in r.channels c t in
       let k : c % 16 ≡ c = omega arith in
-      let n : m ≡ motion_on (state_of r) c = is ∙ ap (λ (i : ℕ). (get_or r.moving i (carrying Idle)).motion) k in
+      let n : m ≡ motion_on (state_of r) c = is ∙ ap (λ (i : ℕ). (get_or r.moving i (carrying None)).motion) k in
       by_bool (is_idle m)
       (λ d. rw (e, on-is r.channels c on oi, t, d, ← n, d))
       (λ d. rw (e, on-is r.channels c on oi, t, d, ← n, d, qi, ji, pi, same (state_of r) m d)))
       (λ t. rw (e, on-is r.channels c on oi, t))
 
-  module _ (size : length r.jobs ≡ 16) (granted : refusal (state_of r) (Complete c how) ≡ Granted) where
+  module _ (size : length r.jobs ≡ 16) (granted : refusal (state_of r) (Complete c how) ≡ Ok tt) where
     told : (c < 16) × (is_idle (motion_on (state_of r) c) ≡ false)
     told = unfold refusal in
         let r₁ = passes (not (configured r.channels c)) OutOfRange _ granted in
         (configured-in r.channels c (not-false _ r₁.0), (passes (is_idle (motion_on (state_of r) c)) NothingInProgress _ r₁.1).0)
 
     now : m ≡ motion_on (state_of r) c
-    now = is ∙ ap (λ (i : ℕ). (get_or r.moving i (carrying Idle)).motion) (let h = told.0 in omega arith)
+    now = is ∙ ap (λ (i : ℕ). (get_or r.moving i (carrying None)).motion) (let h = told.0 in omega arith)
 
-    moves : (motion_on (state_of r) c ≡ Busy j p) × (j < 16)
+    moves : (motion_on (state_of r) c ≡ Some (j, p)) × (j < 16)
     moves = let b = busy m (rw now told.1) in (rw (ji, pi) (sym now ∙ b.0), rw ji b.1)
 
     abbrev site : Site
@@ -149,7 +147,7 @@ module _ (r : Lists) (c : ℕ) (how : How) (m : Motion) (is : m ≡ (get_or r.mo
     overs = over_job (job_in r.jobs j) p how c breaks
 
     abbrev shut : State
-    shut = reunit (move (state_of r) c Idle) (cond breaks (set_lock r.units.of c site true) r.units.of)
+    shut = reunit (move (state_of r) c None) (cond breaks (set_lock r.units.of c site true) r.units.of)
 
     abbrev kept : List ℕ
     kept = relist j overs.packets (list_of r.list)
@@ -157,7 +155,7 @@ module _ (r : Lists) (c : ℕ) (how : How) (m : Motion) (is : m ≡ (get_or r.mo
     whole : finished (state_of r) c how j p ≡ focus shut j overs kept
     whole = finished-is (state_of r) c j p how (omega (arith, size, moves.1))
 
-    pub complete-is : (idle : Carrier) → idle ≡ carrying Idle
+    pub complete-is : (idle : Carrier) → idle ≡ carrying None
         → (b : Bool) → b ≡ is_trouble r.codes how && is_unit q.at
         → (over : Ending) → over ≡ ending_of (over_job (get_or r.jobs (j % 16) no_job) p how c b) (set r.moving (c % 16) idle) j
         → (left : RequestList) → left ≡ padded (relist j over.job.packets (list_of r.list))

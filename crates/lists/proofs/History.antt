@@ -1,5 +1,6 @@
 -- The code's outcomes are the steps of the rules: a history of calls of the code is a history of the rules, so that
 -- demand 3, the codes and the invariants, which are of any history of the rules, are of the code. Assumes nothing.
+use Rattle.std.proofs.Common.{Err, Ok}
 use mathlib.Core.Path.{◌≡◌, refl, subst}
 use mathlib.Core.List.{List, [], ◌∷◌}
 use Rattle.packets.specs.History.{Event, Leads}
@@ -8,8 +9,7 @@ use Rattle.packets.proofs.ByNumber.{Complete, End, Return, Start, Submit}
 use Rattle.packets.specs.declared.Act.TheVariants as Act'
 use Rattle.packets.specs.State.{State}
 use Rattle.packets.specs.declared.Lists.{Lists}
-use Rattle.packets.specs.declared.Verdict.{Verdict}
-use Rattle.packets.specs.declared.Verdict.TheVariants.{Denied, Granted}
+use Rattle.packets.specs.State.{Verdict}
 use Rattle.packets_queue.proofs.PaddedLaws.{list-padded}
 use Rattle.lists.specs.Outcomes.{leaves, lists_of, outcome, settled, state_of}
 
@@ -34,8 +34,8 @@ unfolding outcome step
 outcome-is r x = go (refusal (state_of r) x)
   where
     go : (v : Verdict) → ((settled r x v).answer ≡ (decided (state_of r) x v).answer) × (state_of (settled r x v).lists ≡ (decided (state_of r) x v).state)
-    go Granted = (refl, leaves-is r x)
-    go (Denied n) = (refl, refl)
+    go (Ok u) = (refl, leaves-is r x)
+    go (Err n) = (refl, refl)
 
 -- the calls of the code one after the other: the state then, and each call with its answer
 unfoldable pub runs : Lists → List Call → Lists

@@ -1,4 +1,5 @@
 -- A return's outcome, from what its parts have computed. Assumes nothing.
+use Rattle.std.proofs.Common.{None, Ok, Some}
 use Prim.Native.Nat.{ℕ, ◌%◌, ◌<◌}
 use mathlib.Core.Path.{◌≡◌, refl, sym, ap, ◌∙◌}
 use mathlib.Core.Bool.{not, cond, ◌&&◌}
@@ -14,7 +15,6 @@ use Rattle.units.specs.declared.Holder.TheVariants.{Free, Returning}
 use Rattle.units.specs.declared.Unit.{Unit as UnitState}
 use Rattle.units.specs.declared.Units.{Units}
 use Rattle.channels.specs.declared.Channel.{Channel}
-use Rattle.channels.specs.declared.Fitted.TheVariants.{Nothing}
 use Rattle.packets.proofs.Laws.{and_left, and_right, passes}
 use Rattle.packets.specs.Rules.{accept, answer, cut, is_at, moves_at, reaches, refusal, return_refusal}
 use Rattle.packets.proofs.ByNumber.{Return}
@@ -24,14 +24,12 @@ use Rattle.packets.specs.declared.Acted.{Acted}
 use Rattle.packets.specs.declared.Answer.TheVariants.{Done}
 use Rattle.packets.specs.declared.Job.{Job}
 use Rattle.packets.specs.declared.Lists.{Lists}
-use Rattle.packets.specs.declared.Motion.{Motion}
-use Rattle.packets.specs.declared.Motion.TheVariants.{Busy, Idle}
+use Rattle.packets.specs.State.{Motion}
 use Rattle.packets.specs.declared.RequestList.{RequestList}
 use Rattle.packets.specs.declared.Site.{Site}
 use Rattle.packets.specs.declared.Site.TheVariants.{AtUnit}
 use Rattle.packets.specs.declared.Spot.TheVariants.{OnUnit}
-use Rattle.packets.specs.declared.Verdict.{Verdict}
-use Rattle.packets.specs.declared.Verdict.TheVariants.{Granted}
+use Rattle.packets.specs.State.{Verdict}
 use Rattle.packets_queue.specs.Padded.{list_of, padded}
 use Rattle.lists.proofs.Calls.{granted-is, small_is}
 use Rattle.lists.proofs.Focus.{focus, focus-self, focus-sweep}
@@ -41,11 +39,11 @@ use Rattle.lists.specs.Parts.{cut_job, holder_after, moves_in}
 -- what moves is read from the job's packets
 moves-in : (s : State) (j c : ℕ) (a : Site) (m : Motion) → moves_at s j c a m ≡ moves_in (job_in s.jobs j).packets j c a m
 unfolding packet_in
-moves-in s j c a Idle = refl
-moves-in s j c a (Busy k p) = refl
+moves-in s j c a None = refl
+moves-in s j c a (Some (k, p)) = refl
 
 module _ (r : Lists) (j c u : ℕ) where
-  pub return-verdict : (on : Channel) → on ≡ get_or r.channels (c % 16) (record { has = Nothing }) → (was : UnitState)
+  pub return-verdict : (on : Channel) → on ≡ get_or r.channels (c % 16) (record { has = None }) → (was : UnitState)
       → was ≡ unit_in r.units.of c u
       → (v : Verdict) → v ≡ return_refusal on.has (get_or r.jobs (j % 16) no_job).state was j c u → refusal (state_of r) (Return j c u) ≡ v
   unfolding refusal state_in fitted_on
@@ -56,7 +54,7 @@ module _ (r : Lists) (j c u : ℕ) where
       (λ s. rw (e, t, s)))
       (λ t. rw (e, t))
 
-  module _ (size : length r.jobs ≡ 16) (granted : refusal (state_of r) (Return j c u) ≡ Granted) where
+  module _ (size : length r.jobs ≡ 16) (granted : refusal (state_of r) (Return j c u) ≡ Ok tt) where
     inside : (j < 16) × (c < 16)
     inside = unfold refusal in
         let t = not-false _
@@ -75,7 +73,7 @@ module _ (r : Lists) (j c u : ℕ) where
     pub return-is : (changed : Job) → changed ≡ cut_job (get_or r.jobs (j % 16) no_job) c a
         → (left : RequestList) → left ≡ padded (relist j changed.packets (list_of r.list))
         → (holder : Holder) → holder ≡ holder_after (get_or r.jobs (j % 16) no_job).packets j c a
-        (get_or r.moving (c % 16) (carrying Idle)).motion
+        (get_or r.moving (c % 16) (carrying None)).motion
         → (units : Units) → units ≡ units_from (set_holder r.units.of c a holder)
         → ◌≡◌ {A = Acted}
         (record {

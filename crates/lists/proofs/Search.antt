@@ -1,4 +1,5 @@
 -- Looking for the oldest packet that can start, as the loop of `start` does. Assumes nothing.
+use Rattle.std.proofs.Common.{None, Some}
 use Prim.Native.Nat.{ℕ, ◌+◌, ◌≤◌, ◌<◌}
 use mathlib.Core.Path.{◌≡◌, refl, sym, ap, ◌∙◌}
 use mathlib.Core.Bool.{Bool, true, false}
@@ -10,8 +11,7 @@ use Rattle.units.specs.declared.Unit.{Unit as UnitState}
 use Rattle.packets.proofs.PickLaws.{find-part, find-step}
 use Rattle.numbers.specs.Elements.{find}
 use Rattle.packets.specs.Rules.{startable_on}
-use Rattle.packets.specs.declared.Found.{Found}
-use Rattle.packets.specs.declared.Found.TheVariants.{At, Nowhere}
+use Rattle.packets.specs.State.{Found}
 use Rattle.packets.specs.declared.Job.{Job}
 use Rattle.packets.specs.declared.Lists.{Lists}
 use Rattle.packets_queue.proofs.Relist.{listed-is}
@@ -24,9 +24,9 @@ use Rattle.lists.specs.Parts.{found_of}
 pub record Searching (row : List UnitState) (jobs : List Job) (c : ℕ) (entries : List ℕ) (end k : ℕ) (found : Found) : Type 0 where
   pub passed : k ≤ end
   pub unstarted : find (can_start_at row jobs c) (take k entries) ≡ none
-  pub nowhere : found ≡ Nowhere
+  pub nowhere : found ≡ None
 
-pub search-starts : (row : List UnitState) (jobs : List Job) (c : ℕ) (entries : List ℕ) (end : ℕ) → Searching row jobs c entries end 0 Nowhere
+pub search-starts : (row : List UnitState) (jobs : List Job) (c : ℕ) (entries : List ℕ) (end : ℕ) → Searching row jobs c entries end 0 None
 search-starts row jobs c entries end = record { passed = omega arith; unstarted = refl; nowhere = refl }
 
 module _ (r : Lists) (c : ℕ) (row : List UnitState) (R : RowOf r.units.of c row) (full : length r.list.entries ≡ 256)
@@ -52,7 +52,7 @@ module _ (r : Lists) (c : ℕ) (row : List UnitState) (R : RowOf r.units.of c ro
         L.nowhere ∙ found_of_lem none (rw e at L.unstarted)
 
     module _ (less : k < end) (b : Bool) (t : test (get_or r.list.entries k 0) ≡ b) where
-      pub search-found : b ≡ true → At (get_or r.list.entries k 0) ≡ wanted
+      pub search-found : b ≡ true → Some (get_or r.list.entries k 0) ≡ wanted
       search-found y =
           let e : find test (take (k + 1) r.list.entries) ≡ some (get_or r.list.entries k 0) =
           find-step test r.list.entries k 0 (omega (arith, S.within)) L.unstarted ∙ rw (t ∙ y) in

@@ -1,4 +1,5 @@
 -- A start's outcome, from what its parts have computed. Assumes nothing.
+use Rattle.std.proofs.Common.{None, Ok, Some}
 use Prim.Native.Nat.{ℕ, ◌%◌, ◌<◌}
 use mathlib.Core.Path.{◌≡◌, refl, sym, ap, ◌∙◌}
 use mathlib.Core.Bool.{true, false, not, ◌&&◌}
@@ -10,7 +11,6 @@ use borrow.Author.Tests.{not-false}
 use Rattle.numbers.proofs.Tests.{by_bool, never}
 use Rattle.numbers.specs.declared.Refusal.TheVariants.{ChannelBusy, NothingStartable, OutOfRange}
 use Rattle.channels.specs.declared.Channel.{Channel}
-use Rattle.channels.specs.declared.Fitted.TheVariants.{Nothing}
 use Rattle.packets.proofs.Laws.{passes}
 use Rattle.numbers.specs.Elements.{find}
 use Rattle.packets.specs.Rules.{accept, answer, begins, begun, first, is_none, refusal, startable, startable_on, started}
@@ -21,15 +21,13 @@ use Rattle.packets.proofs.Told.{configured-in}
 use Rattle.packets.specs.declared.Acted.{Acted}
 use Rattle.packets.specs.declared.Answer.{Answer}
 use Rattle.packets.specs.declared.Carrier.{Carrier}
-use Rattle.packets.specs.declared.Found.{Found}
+use Rattle.packets.specs.State.{Found}
 use Rattle.packets.specs.declared.Job.{Job}
 use Rattle.packets.specs.declared.Job.{Job}
 use Rattle.packets.specs.declared.Lists.{Lists}
-use Rattle.packets.specs.declared.Motion.TheVariants.{Busy, Idle}
 use Rattle.packets.specs.declared.RequestList.{RequestList}
 use Rattle.packets.specs.declared.Status.TheVariants.{InProgress}
-use Rattle.packets.specs.declared.Verdict.{Verdict}
-use Rattle.packets.specs.declared.Verdict.TheVariants.{Granted}
+use Rattle.packets.specs.State.{Verdict}
 use Rattle.packets_queue.specs.Padded.{list_of, padded}
 use Rattle.packets_job.specs.Aims.{status_set}
 use Rattle.lists.proofs.Calls.{granted-is, on-is}
@@ -50,11 +48,11 @@ found-is (some x) e = refl
 begun-is : (s : State) (c e : ℕ) → place_of e < length s.jobs
     → let job = job_in s.jobs (place_of e) in
     let ps = status_set job.packets (packet_of e) InProgress in
-    begun s c e ≡ move (focus s (place_of e) (with_packets job ps) (relist (place_of e) ps s.queue)) c (Busy (place_of e) (packet_of e))
+    begun s c e ≡ move (focus s (place_of e) (with_packets job ps) (relist (place_of e) ps s.queue)) c (Some (place_of e, packet_of e))
 unfolding packet_in
 begun-is s c e h =
     let q = with_status (get_or (job_in s.jobs (place_of e)).packets (packet_of e) _) InProgress in
-    ap (λ (z : State). move z c (Busy (place_of e) (packet_of e)))
+    ap (λ (z : State). move z c (Some (place_of e, packet_of e)))
     (ap (λ (z : State). store z (place_of e) (packet_of e) q) (focus-self s (place_of e))
     ∙ focus-store s (place_of e) h (job_in s.jobs (place_of e)) s.queue (packet_of e) q)
 
@@ -62,9 +60,9 @@ module _ (r : Lists) (c : ℕ) (found : Found) (is : found ≡ found_of (find (s
   abbrev first_found : Option ℕ
   first_found = find (startable (state_of r) c) (list_of r.list)
 
-  pub start-verdict : (on : Channel) → on ≡ get_or r.channels (c % 16) (record { has = Nothing }) → (v : Verdict)
+  pub start-verdict : (on : Channel) → on ≡ get_or r.channels (c % 16) (record { has = None }) → (v : Verdict)
       → v ≡ first (not (ltb c 16 && is_there_of on.has)) OutOfRange
-      (first (not (is_idle (get_or r.moving (c % 16) (carrying Idle)).motion)) ChannelBusy (first (is_nowhere found) NothingStartable Granted))
+      (first (not (is_idle (get_or r.moving (c % 16) (carrying None)).motion)) ChannelBusy (first (is_nowhere found) NothingStartable (Ok tt)))
       → refusal (state_of r) (Start c) ≡ v
   unfolding refusal
   start-verdict on oi v e =
@@ -74,19 +72,19 @@ module _ (r : Lists) (c : ℕ) (found : Found) (is : found ≡ found_of (find (s
       let k : c % 16 ≡ c = omega arith in rw (e, on-is r.channels c on oi, is, nowhere-is first_found, k))
       (λ t. rw (e, on-is r.channels c on oi, t))
 
-  module _ (size : length r.jobs ≡ 16) (granted : refusal (state_of r) (Start c) ≡ Granted) where
+  module _ (size : length r.jobs ≡ 16) (granted : refusal (state_of r) (Start c) ≡ Ok tt) where
     told : (c < 16) × (is_none first_found ≡ false)
     told = unfold refusal in
         let r₁ = passes (not (configured r.channels c)) OutOfRange _ granted in
         let r₂ = passes (not (is_idle (motion_on (state_of r) c))) ChannelBusy _ r₁.1 in
-        (configured-in r.channels c (not-false _ r₁.0), (passes (is_none first_found) NothingStartable Granted r₂.1).0)
+        (configured-in r.channels c (not-false _ r₁.0), (passes (is_none first_found) NothingStartable (Ok tt) r₂.1).0)
 
     pub start_is : (e : ℕ) → e ≡ entry_in found → place_of e < 16
         → (changed : Job) → changed ≡ with_packets (get_or r.jobs (place_of e) no_job)
         (status_set (get_or r.jobs (place_of e) no_job).packets (packet_of e) InProgress)
         → (a : Answer) → a ≡ started_at (get_or r.jobs (place_of e) no_job).packets e
         → (left : RequestList) → left ≡ padded (relist (place_of e) changed.packets (list_of r.list))
-        → (busy : Carrier) → busy ≡ carrying (Busy (place_of e) (packet_of e))
+        → (busy : Carrier) → busy ≡ carrying (Some (place_of e, packet_of e))
         → ◌≡◌ {A = Acted}
         (record {
           lists = record {

@@ -1,5 +1,6 @@
 -- A submission's outcome, from what its parts have computed: each function's stores are one store of the job and
 -- one pass over the list. Assumes nothing.
+use Rattle.std.proofs.Common.{Ok, None}
 use Prim.Native.Nat.{ℕ, ◌%◌, ◌<◌}
 use mathlib.Core.Path.{◌≡◌, refl, sym, ap, ◌∙◌}
 use mathlib.Core.Bool.{Bool, true, false, not, cond, ◌&&◌}
@@ -14,7 +15,6 @@ use Rattle.units.specs.State.{units_from}
 use Rattle.units.specs.declared.Unit.{Unit as UnitState}
 use Rattle.units.specs.declared.Units.{Units}
 use Rattle.channels.specs.declared.Channel.{Channel}
-use Rattle.channels.specs.declared.Fitted.TheVariants.{Nothing}
 use Rattle.packets.proofs.Laws.{and_left, and_right, passes}
 use Rattle.packets.specs.Rules.{accept, aimed, answer, cut, enlist, failed, in_range, is_at, locked}
 use Rattle.packets.specs.Rules.{packet, pass, refusal, site_of, submit_refusal, submitted}
@@ -31,8 +31,7 @@ use Rattle.packets.specs.declared.Spot.{Spot}
 use Rattle.packets.specs.declared.Spot.TheVariants.{OnDrum, OnUnit}
 use Rattle.packets.specs.declared.Status.{Status}
 use Rattle.packets.specs.declared.Status.TheVariants.{Ended, Listed}
-use Rattle.packets.specs.declared.Verdict.{Verdict}
-use Rattle.packets.specs.declared.Verdict.TheVariants.{Granted}
+use Rattle.packets.specs.State.{Verdict}
 use Rattle.packets_queue.specs.Padded.{list_of, padded}
 use Rattle.packets_submit.specs.After.{is_unlocking, job_after, unlocked_for}
 use Rattle.lists.proofs.Calls.{granted-is, small_is}
@@ -102,7 +101,7 @@ past true true false = refl
 past true false d = refl
 past false b d = refl
 
-module _ (r : Lists) (j p f c : ℕ) (w : Spot) (on : Channel) (oi : on ≡ get_or r.channels (c % 16) (record { has = Nothing }))
+module _ (r : Lists) (j p f c : ℕ) (w : Spot) (on : Channel) (oi : on ≡ get_or r.channels (c % 16) (record { has = None }))
     (unit : UnitState) (is : unit ≡ unit_at r.units.of c (site_of w)) where
   -- what the channel has, if its number is below 16
   here : ltb c 16 ≡ true → on.has ≡ fitted_on r.channels c
@@ -117,7 +116,7 @@ module _ (r : Lists) (j p f c : ℕ) (w : Spot) (on : Channel) (oi : on ≡ get_
       (λ s. by_bool (ltb j 16) (λ t. rw (e, here s, is, small_is j t)) (λ t. rw (e, t)))
       (λ s. rw (e, s, past (ltb j 16) (ltb p 16) (ltb f 64)))
 
-  module _ (size : length r.jobs ≡ 16) (granted : refusal (state_of r) (Submit j p f c w) ≡ Granted) where
+  module _ (size : length r.jobs ≡ 16) (granted : refusal (state_of r) (Submit j p f c w) ≡ Ok tt) where
     inside : in_range (fitted_on r.channels c) j p f c w ≡ true
     inside = unfold refusal in not-false _ (passes (not (in_range (fitted_on r.channels c) j p f c w)) OutOfRange _ granted).0
 

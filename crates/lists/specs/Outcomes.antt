@@ -1,5 +1,7 @@
 -- The state as the code holds it, and the one outcome of each call: what the rules say, with every byte determined.
-use Rattle.std.specs.Prelude.{ℕ, ◌≡◌, cond, ◌&&◌, ltb}
+use Rattle.std.specs.Prelude.{Result, ℕ, ◌≡◌, cond, ◌&&◌, ltb, Err, Ok}
+use Rattle.numbers.specs.declared.Refusal.{Refusal}
+use Rattle.packets.specs.declared.Status.{Status}
 use Rattle.numbers.specs.declared.Refusal.TheVariants.{OutOfRange}
 use Rattle.units.specs.State.{units_from}
 use Rattle.packets.specs.Rules.{Call, Do, Take, accept, answer, refusal}
@@ -8,11 +10,8 @@ use Rattle.packets.specs.declared.Act.TheVariants.{Submit, Start, Complete, End,
 use Rattle.packets.specs.declared.Answer.TheVariants.{Refused}
 use Rattle.packets.specs.declared.Lists.{Lists}
 use Rattle.packets.specs.declared.Acted.{Acted}
-use Rattle.packets.specs.declared.Verdict.{Verdict}
-use Rattle.packets.specs.declared.Verdict.TheVariants.{Denied, Granted}
+use Rattle.packets.specs.State.{Verdict}
 use Rattle.packets_queue.specs.Padded.{Tidy, list_of, padded}
-use Rattle.lists.specs.declared.StatusAnswer.{StatusAnswer}
-use Rattle.lists.specs.declared.StatusAnswer.TheVariants as StatusAnswers
 
 -- the state that the rules speak of
 abbrev pub state_of : Lists → State
@@ -51,15 +50,18 @@ leaves r (Do (Mark c u m on)) = keeping r (accept (state_of r) (Do (Mark c u m o
 -- an accepted call leaves and answers what the rules say; a refused one returns the number alone, and the state keeps
 -- every byte
 abbrev pub settled : Lists → Call → Verdict → Acted
-settled r x Granted = record { answer = answer (state_of r) x; lists = leaves r x }
-settled r x (Denied n) = record { answer = Refused n; lists = r }
+settled r x (Ok u) = record { answer = answer (state_of r) x; lists = leaves r x }
+settled r x (Err n) = record { answer = Refused n; lists = r }
 
 -- the one outcome of a call
 unfoldable pub outcome : Lists → Call → Acted
 outcome r x = settled r x (refusal (state_of r) x)
 
 -- READ A PACKET'S STATUS: "1 if p or k is out of range"; nothing changes
+abbrev pub StatusAnswer : Type 0
+StatusAnswer = Result Status Refusal
+
 abbrev pub status_in : Lists → ℕ → ℕ → StatusAnswer
 status_in lists place packet =
-    cond (ltb place 16 && ltb packet 16) (StatusAnswers.Is (packet_in lists.jobs place packet).status)
-    (StatusAnswers.Refused OutOfRange)
+    cond (ltb place 16 && ltb packet 16) (Ok (packet_in lists.jobs place packet).status)
+    (Err OutOfRange)

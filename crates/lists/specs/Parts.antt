@@ -1,6 +1,6 @@
 -- The parts of what the calls answer and leave. Nothing here has to be believed: Outcomes, and Rules of packets, say
 -- what comes out.
-use Rattle.std.specs.Prelude.{ℕ, ◌+◌, ◌*◌, ◌%◌, Bool, true, false, cond, ◌&&◌, List, map, eqb, get_or}
+use Rattle.std.specs.Prelude.{ℕ, ◌+◌, ◌*◌, ◌%◌, Bool, true, false, cond, ◌&&◌, List, map, eqb, get_or, None, Some}
 use Rattle.std.proofs.Math.Option.{Option, none, some}
 use Rattle.units.specs.declared.Holder.{Holder}
 use Rattle.units.specs.declared.Holder.TheVariants.{Free, Returning}
@@ -10,11 +10,9 @@ use Rattle.packets.specs.State.{freed_at, blank, enlisted, packet_of, place_of, 
 use Rattle.packets_submit.specs.After.{is_listing}
 use Rattle.packets.specs.declared.Answer.{Answer}
 use Rattle.packets.specs.declared.Answer.TheVariants.{Started}
-use Rattle.packets.specs.declared.Found.{Found}
-use Rattle.packets.specs.declared.Found.TheVariants.{At, Nowhere}
+use Rattle.packets.specs.State.{Found}
 use Rattle.packets.specs.declared.Job.{Job}
-use Rattle.packets.specs.declared.Motion.{Motion}
-use Rattle.packets.specs.declared.Motion.TheVariants.{Busy, Idle}
+use Rattle.packets.specs.State.{Motion}
 use Rattle.packets.specs.declared.Packet.{Packet}
 use Rattle.packets.specs.declared.Site.{Site}
 
@@ -28,28 +26,28 @@ listed_as j p = j % 16 * 16 + p % 16
 
 -- the oldest packet that can start, if there is one
 abbrev pub found_of : Option ℕ → Found
-found_of none = Nowhere
-found_of (some e) = At e
+found_of none = None
+found_of (some e) = Some e
 
 -- no packet can start
 abbrev pub is_nowhere : Found → Bool
-is_nowhere (At e) = false
-is_nowhere Nowhere = true
+is_nowhere (Some e) = false
+is_nowhere None = true
 
 -- the entry of the one that can
 abbrev pub entry_in : Found → ℕ
-entry_in (At e) = e
-entry_in Nowhere = 0
+entry_in (Some e) = e
+entry_in None = 0
 
 -- the place of what moves
 abbrev pub place_in : Motion → ℕ
-place_in Idle = 0
-place_in (Busy j p) = j
+place_in None = 0
+place_in (Some (j, p)) = j
 
 -- its number
 abbrev pub packet_no : Motion → ℕ
-packet_no Idle = 0
-packet_no (Busy j p) = p
+packet_no None = 0
+packet_no (Some (j, p)) = p
 
 -- the answer of a start, by the packets of the place
 abbrev pub started_at : List Packet → ℕ → Answer
@@ -70,8 +68,8 @@ cut_job job c a = with_packets job (map (restatus (is_at c a) cut) job.packets)
 
 -- what moves is one of these packets, of the job in place j, at a on channel c
 abbrev pub moves_in : List Packet → ℕ → ℕ → Site → Motion → Bool
-moves_in ps j c a Idle = false
-moves_in ps j c a (Busy k p) = eqb k j && is_at c a (get_or ps p blank)
+moves_in ps j c a None = false
+moves_in ps j c a (Some (k, p)) = eqb k j && is_at c a (get_or ps p blank)
 
 -- who then holds a unit that the job has given back
 abbrev pub holder_after : List Packet → ℕ → ℕ → Site → Motion → Holder

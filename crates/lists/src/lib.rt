@@ -14,17 +14,8 @@ ghost use Rattle.lists.specs.Outcomes.{lists_of, outcome, status_in};
 
 use channels::Channel;
 use numbers::{ChannelNumber, Refusal, UnitNumber};
-use packets::{
-    Act, Acted, Answer, Assignment, Carrier, Found, How, Lists, Motion, Site, Spot, Status, Verdict,
-};
+use packets::{Act, Acted, Answer, Assignment, Carrier, How, Lists, Site, Spot, Status};
 use units::Units;
-
-// A packet's status, or why it is not answered.
-#[derive(Clone, Copy)]
-pub enum StatusAnswer {
-    Is(Status),
-    Refused(Refusal),
-}
 
 // The state of a fresh cell with these channels, codes that set interlock, and units.
 pub fn fresh(channels: [Channel; 16], codes: u64, units: Units) -> Lists
@@ -32,9 +23,7 @@ pub fn fresh(channels: [Channel; 16], codes: u64, units: Units) -> Lists
 {
     let jobs = [packets_job::empty(); 16];
     let list = packets_queue::empty();
-    let moving = [Carrier {
-        motion: Motion::Idle,
-    }; 16];
+    let moving = [Carrier { motion: None }; 16];
     Lists {
         channels,
         codes,
@@ -67,8 +56,8 @@ pub fn submit(
     let i = (place % 16) as usize;
     let job = next.jobs[i];
     match packets_submit::verdict(has, job, unit, place, packet, function, channel, spot) {
-        Verdict::Denied(refusal) => answer = Answer::Refused(refusal),
-        Verdict::Granted => {
+        Err(refusal) => answer = Answer::Refused(refusal),
+        Ok(()) => {
             let unlocking = packets_submit::is_unlocking(function, unit);
             let changed = packets_submit::job_after(
                 job, packet, function, channel, spot, unlocking,
@@ -101,24 +90,22 @@ pub fn start(lists: Lists, channel: ChannelNumber) -> Acted
     let mut next = lists;
     let mut answer = Answer::Done;
     let end = packets_queue::size_of(&next.list.entries, count);
-    let mut found = Found::Nowhere;
-    let mut k: usize = 0;
-    while k < end {
+    let mut found = None;
+    for k in 0..end {
         let e = packets_queue::entry_at(&next.list.entries, k);
         let place = (e / 16) as usize;
         let job = next.jobs[place];
         if packets_queue::can_start(job, e, row, channel) {
-            found = Found::At(e);
+            found = Some(e);
             break;
         }
-        k += 1;
     }
     let c = (channel.0 % 16) as usize;
     let on = next.channels[c];
     let carrier = next.moving[c];
     match verdicts::of_start(on, carrier, found, channel) {
-        Verdict::Denied(refusal) => answer = Answer::Refused(refusal),
-        Verdict::Granted => {
+        Err(refusal) => answer = Answer::Refused(refusal),
+        Ok(()) => {
             let e = after::entry_of(found);
             let i = (e / 16) as usize;
             let job = next.jobs[i];
@@ -153,8 +140,8 @@ pub fn complete(lists: Lists, channel: ChannelNumber, how: How) -> Acted
     let ps = job.packets;
     let q = packets_job::packet_in(ps, p);
     match verdicts::of_complete(on, carrier, q, how, channel) {
-        Verdict::Denied(refusal) => answer = Answer::Refused(refusal),
-        Verdict::Granted => {
+        Err(refusal) => answer = Answer::Refused(refusal),
+        Ok(()) => {
             let idle = after::idle();
             next.moving[c] = idle;
             let moving = next.moving;
@@ -192,8 +179,8 @@ pub fn end(lists: Lists, place: u8, in_error: bool) -> Acted
     let job = next.jobs[i];
     let state = job.state;
     match verdicts::of_end(state, place) {
-        Verdict::Denied(refusal) => answer = Answer::Refused(refusal),
-        Verdict::Granted => {
+        Err(refusal) => answer = Answer::Refused(refusal),
+        Ok(()) => {
             let moving = next.moving;
             let shut = packets_end::closed(job, in_error, moving, place);
             let changed = shut.job;
@@ -232,8 +219,8 @@ pub fn return_unit(lists: Lists, place: u8, channel: ChannelNumber, unit: UnitNu
     let job = next.jobs[i];
     let state = job.state;
     match verdicts::of_return(has, state, was, place, channel, unit) {
-        Verdict::Denied(refusal) => answer = Answer::Refused(refusal),
-        Verdict::Granted => {
+        Err(refusal) => answer = Answer::Refused(refusal),
+        Ok(()) => {
             let changed = after::cut_at(job, channel, unit);
             next.jobs[i] = changed;
             let count = next.list.count;
@@ -253,6 +240,7 @@ pub fn return_unit(lists: Lists, place: u8, channel: ChannelNumber, unit: UnitNu
 }
 
 // A call on packets, jobs, units or marks.
+// Stays: which call it is comes as a value of the rules, and `Do act` can't speak so of a closure in its place.
 pub fn act(lists: Lists, act: Act) -> Acted
     ensures { result ≡ outcome lists (Do act) }
 {
@@ -278,8 +266,8 @@ pub fn take(lists: Lists, place: u8, assignment: Assignment) -> Acted
     let last = next.jobs[i];
     let state = last.state;
     match verdicts::of_take(state, place) {
-        Verdict::Denied(refusal) => answer = Answer::Refused(refusal),
-        Verdict::Granted => {
+        Err(refusal) => answer = Answer::Refused(refusal),
+        Ok(()) => {
             let core = assignment.core;
             let job = packets_job::running(assignment.from, assignment.words, core);
             next.jobs[i] = job;
@@ -310,8 +298,8 @@ pub fn mark(
     let channels = next.channels;
     let has = packets_channels::fitted_on(channels, channel);
     match verdicts::of_mark(has, channel, unit) {
-        Verdict::Denied(refusal) => answer = Answer::Refused(refusal),
-        Verdict::Granted => {
+        Err(refusal) => answer = Answer::Refused(refusal),
+        Ok(()) => {
             let units = next.units;
             let marked = after::with_mark(units, channel, unit, mark, on);
             next.units = marked;
@@ -323,20 +311,13 @@ pub fn mark(
     }
 }
 
-// The status of a packet of a place; nothing changes.
-pub fn status(lists: Lists, place: u8, packet: u8) -> StatusAnswer
+// The status of a packet of a place, or why it is not answered; nothing changes.
+pub fn status(lists: Lists, place: u8, packet: u8) -> Result<Status, Refusal>
     ensures { result ≡ status_in lists place packet }
 {
-    if 15 < place {
-        return StatusAnswer::Refused(Refusal::OutOfRange);
+    if 15 < place || 15 < packet {
+        return Err(Refusal::OutOfRange);
     }
-    if 15 < packet {
-        return StatusAnswer::Refused(Refusal::OutOfRange);
-    }
-    let i = place as usize;
-    let job = lists.jobs[i];
-    let ps = job.packets;
-    let found = packets_job::packet_in(ps, packet);
-    let status = found.status;
-    StatusAnswer::Is(status)
+    let job = lists.jobs[place as usize];
+    Ok(packets_job::packet_in(job.packets, packet).status)
 }

@@ -1,8 +1,7 @@
 // Whether a call is refused, by the parts that it reads; of a submission the crate of that name has it.
-ghost use Rattle.std.specs.Prelude.{◌≡◌, not, ◌&&◌, ltb};
+ghost use Rattle.std.specs.Prelude.{◌≡◌, not, ◌&&◌, ltb, Ok};
 ghost use Rattle.numbers.specs.declared.Refusal.TheVariants.{OutOfRange, NoJob, ChannelBusy};
 ghost use Rattle.numbers.specs.declared.Refusal.TheVariants.{NothingStartable, NothingInProgress, WrongCompletion, NoPlaceFree};
-ghost use Rattle.packets.specs.declared.Verdict.TheVariants.{Granted};
 ghost use Rattle.packets.specs.declared.Spot.TheVariants.{OnUnit};
 ghost use Rattle.packets.specs.State.{is_there_of, is_idle, is_running, is_empty};
 ghost use Rattle.packets.specs.Rules.{first, is_wrong, reaches, return_refusal};
@@ -10,60 +9,49 @@ ghost use Rattle.lists.specs.Parts.{is_nowhere};
 
 use channels::{Channel, Fitted};
 use numbers::{ChannelNumber, Refusal, UnitNumber};
-use packets::{Carrier, Found, How, JobState, Motion, Packet, Spot, Verdict};
+use packets::{Carrier, How, JobState, Packet, Spot};
 use units::Unit;
 
 // Whether nothing moves; what is no packet of the cell is nothing.
-fn is_idle(motion: Motion) -> bool
+fn is_idle(motion: Option<(u8, u8)>) -> bool
     ensures { result ≡ is_idle motion }
 {
-    match motion {
-        Motion::Idle => true,
-        Motion::Busy(j, p) => {
-            if 15 < j {
-                return true;
-            }
-            15 < p
-        }
-    }
+    !motion.is_some_and(|(j, p)| j < 16 && p < 16)
 }
 
-fn is_nowhere(found: Found) -> bool
+fn is_nowhere(found: Option<u8>) -> bool
     ensures { result ≡ is_nowhere found }
 {
-    match found {
-        Found::At(_) => false,
-        Found::Nowhere => true,
-    }
+    found.is_none()
 }
 
 // Whether the cell has channel c, which is this one if its number is below 16.
 fn is_configured(on: Channel, c: ChannelNumber) -> bool
     ensures { result ≡ (ltb c.0 16 && is_there_of on.has) }
 {
-    if 15 < c.0 {
-        return false;
-    }
-    let has = on.has;
-    packets_channels::is_there(has)
+    c.0 < 16 && packets_channels::is_there(on.has)
 }
 
 // Of a start, by what the channel has and what moves on it, and by the packet that was found.
-pub fn of_start(on: Channel, carrier: Carrier, found: Found, c: ChannelNumber) -> Verdict
+pub fn of_start(
+    on: Channel,
+    carrier: Carrier,
+    found: Option<u8>,
+    c: ChannelNumber,
+) -> Result<(), Refusal>
     ensures { result ≡ first (not (ltb c.0 16 && is_there_of on.has)) OutOfRange
-        (first (not (is_idle carrier.motion)) ChannelBusy (first (is_nowhere found) NothingStartable Granted)) }
+        (first (not (is_idle carrier.motion)) ChannelBusy (first (is_nowhere found) NothingStartable (Ok tt))) }
 {
-    let motion = carrier.motion;
     if !is_configured(on, c) {
-        return Verdict::Denied(Refusal::OutOfRange);
+        return Err(Refusal::OutOfRange);
     }
-    if !is_idle(motion) {
-        return Verdict::Denied(Refusal::ChannelBusy);
+    if !is_idle(carrier.motion) {
+        return Err(Refusal::ChannelBusy);
     }
     if is_nowhere(found) {
-        return Verdict::Denied(Refusal::NothingStartable);
+        return Err(Refusal::NothingStartable);
     }
-    Verdict::Granted
+    Ok(())
 }
 
 // Of a completion, by what the channel has, what moves on it and its packet.
@@ -73,93 +61,81 @@ pub fn of_complete(
     packet: Packet,
     how: How,
     c: ChannelNumber,
-) -> Verdict
+) -> Result<(), Refusal>
     ensures { result ≡ first (not (ltb c.0 16 && is_there_of on.has)) OutOfRange
-        (first (is_idle carrier.motion) NothingInProgress (first (is_wrong packet.status how) WrongCompletion Granted)) }
+        (first (is_idle carrier.motion) NothingInProgress (first (is_wrong packet.status how) WrongCompletion (Ok tt))) }
 {
-    let motion = carrier.motion;
-    let status = packet.status;
     if !is_configured(on, c) {
-        return Verdict::Denied(Refusal::OutOfRange);
+        return Err(Refusal::OutOfRange);
     }
-    if is_idle(motion) {
-        return Verdict::Denied(Refusal::NothingInProgress);
+    if is_idle(carrier.motion) {
+        return Err(Refusal::NothingInProgress);
     }
-    if packets_end::is_wrong(status, how) {
-        return Verdict::Denied(Refusal::WrongCompletion);
+    if packets_end::is_wrong(packet.status, how) {
+        return Err(Refusal::WrongCompletion);
     }
-    Verdict::Granted
+    Ok(())
 }
 
-pub fn of_end(state: JobState, j: u8) -> Verdict
-    ensures { result ≡ first (not (ltb j 16)) OutOfRange (first (not (is_running state)) NoJob Granted) }
+pub fn of_end(state: JobState, j: u8) -> Result<(), Refusal>
+    ensures { result ≡ first (not (ltb j 16)) OutOfRange (first (not (is_running state)) NoJob (Ok tt)) }
 {
     if 15 < j {
-        return Verdict::Denied(Refusal::OutOfRange);
+        return Err(Refusal::OutOfRange);
     }
     if !packets_job::is_running(state) {
-        return Verdict::Denied(Refusal::NoJob);
+        return Err(Refusal::NoJob);
     }
-    Verdict::Granted
+    Ok(())
 }
 
-pub fn of_take(state: JobState, j: u8) -> Verdict
-    ensures { result ≡ first (not (ltb j 16 && is_empty state)) NoPlaceFree Granted }
+pub fn of_take(state: JobState, j: u8) -> Result<(), Refusal>
+    ensures { result ≡ first (not (ltb j 16 && is_empty state)) NoPlaceFree (Ok tt) }
 {
-    if 15 < j {
-        return Verdict::Denied(Refusal::NoPlaceFree);
+    if 15 < j || !packets_job::is_empty(state) {
+        return Err(Refusal::NoPlaceFree);
     }
-    if !packets_job::is_empty(state) {
-        return Verdict::Denied(Refusal::NoPlaceFree);
-    }
-    Verdict::Granted
+    Ok(())
 }
 
 // Whether the cell has unit u of channel c, which has this if its number is below 16; the drum channel has no unit.
-fn has_unit(has: Fitted, c: ChannelNumber, u: UnitNumber) -> bool
+fn has_unit(has: Option<Fitted>, c: ChannelNumber, u: UnitNumber) -> bool
     ensures { result ≡ (ltb c.0 16 && reaches has (OnUnit u)) }
 {
-    if 15 < c.0 {
-        return false;
-    }
-    packets_channels::has_spot(has, Spot::OnUnit(u))
+    c.0 < 16 && packets_channels::has_spot(has, Spot::OnUnit(u))
 }
 
 // Of a return, by what the channel has, the job's state and the unit.
 pub fn of_return(
-    has: Fitted,
+    has: Option<Fitted>,
     state: JobState,
     unit: Unit,
     j: u8,
     c: ChannelNumber,
     u: UnitNumber,
-) -> Verdict
+) -> Result<(), Refusal>
     ensures { result ≡ return_refusal has state unit j c.0 u.0 }
 {
-    let holder = unit.holder;
-    if 15 < j {
-        return Verdict::Denied(Refusal::OutOfRange);
-    }
-    if !has_unit(has, c, u) {
-        return Verdict::Denied(Refusal::OutOfRange);
+    if 15 < j || !has_unit(has, c, u) {
+        return Err(Refusal::OutOfRange);
     }
     if !packets_job::is_running(state) {
-        return Verdict::Denied(Refusal::NoJob);
+        return Err(Refusal::NoJob);
     }
-    if !packets_units::is_held_by(holder, j) {
-        return Verdict::Denied(Refusal::NotTheJobs);
+    if !packets_units::is_held_by(unit.holder, j) {
+        return Err(Refusal::NotTheJobs);
     }
-    if units::is_returning(holder) {
-        return Verdict::Denied(Refusal::BeingReturned);
+    if units::is_returning(unit.holder) {
+        return Err(Refusal::BeingReturned);
     }
-    Verdict::Granted
+    Ok(())
 }
 
-pub fn of_mark(has: Fitted, c: ChannelNumber, u: UnitNumber) -> Verdict
-    ensures { result ≡ first (not (ltb c.0 16 && reaches has (OnUnit u))) OutOfRange Granted }
+pub fn of_mark(has: Option<Fitted>, c: ChannelNumber, u: UnitNumber) -> Result<(), Refusal>
+    ensures { result ≡ first (not (ltb c.0 16 && reaches has (OnUnit u))) OutOfRange (Ok tt) }
 {
     if !has_unit(has, c, u) {
-        return Verdict::Denied(Refusal::OutOfRange);
+        return Err(Refusal::OutOfRange);
     }
-    Verdict::Granted
+    Ok(())
 }

@@ -1,5 +1,6 @@
 -- Every accepted call is nothing to the lone unit of a holding, and then leaves the holding as it was; or it is a call of
 -- the lone unit's own, which the lone unit takes, with the same step and the same start. Assumes nothing.
+use Rattle.std.proofs.Common.{Ok, Some}
 use Prim.Native.Nat.{ℕ}
 use mathlib.Core.Path.{◌≡◌, refl, sym, ap, subst, ◌∙◌}
 use mathlib.Core.Bool.{Bool, true, false, cond, ◌&&◌}
@@ -25,8 +26,6 @@ use Rattle.packets.proofs.Told.{assigns-to, completes-on, ends_of, returns_of, s
 use Rattle.packets.proofs.Handing.{unit_site}
 use Rattle.packets.proofs.SimReturn.{sim-returns, sim-returns-away, takes-return}
 use Rattle.packets.specs.declared.Answer.{Answer}
-use Rattle.packets.specs.declared.Motion.TheVariants.{Busy}
-use Rattle.packets.specs.declared.Verdict.TheVariants.{Granted}
 
 -- the lone unit takes these calls, makes the starts that the answer tells, and is then like the cell
 pub record Follows (codes : ℕ) (h : Holding) (l : Lone) (xs : List LoneCall) (r : Answer) (s : State) : Type 0 where
@@ -60,7 +59,7 @@ module _ (codes : ℕ) (h : Holding) (l : Lone) (r : Answer) (s : State) where
   follows false x acted away = follows-none (away refl)
 
 pub accepted-follows : (h : Holding) (s : State) → Inv s → Holds s h → (l : Lone) → Sim h s l → (t : Seen) → SeenOk h s t
-    → (x : Call) → refusal s x ≡ Granted → Follows s.codes h l (as_lone h t x (answer s x)) (answer s x) (accept s x)
+    → (x : Call) → refusal s x ≡ Ok tt → Follows s.codes h l (as_lone h t x (answer s x)) (answer s x) (accept s x)
 unfolding accept answer as_lone start_by lone_does lone_takes
 accepted-follows h s I H l S t seen (Take j asg) r =
     let k = assigns-to s j asg r in
@@ -109,7 +108,7 @@ accepted-follows h s I H l S t seen (Do (Act'.Complete c how)) r =
     (λ e. sim-complete-away h s I H l S c.0 k.0 j p o.2 (elsewhere j p o.2 e) how))
   where
     -- what was not seen there is not there, since it moves
-    elsewhere : (j p : ℕ) → motion_on s c.0 ≡ Busy j p → eqb j h.place && t p ≡ false
+    elsewhere : (j p : ℕ) → motion_on s c.0 ≡ Some (j, p) → eqb j h.place && t p ≡ false
         → eqb h.place j && there h (packet_in s.jobs j p) ≡ false
     elsewhere j p m e =
         rw (eqb-flip h.place j)

@@ -1,5 +1,6 @@
 -- A held unit changes hands only through being free, so nothing of another job starts or moves there: what does was
 -- submitted there by the job that holds it, since its taking. Assumes nothing.
+use Rattle.std.proofs.Common.{Err, None, Ok, Some}
 use Prim.Native.Nat.{ℕ}
 use mathlib.Core.Path.{◌≡◌, refl, sym, ap, ◌∙◌}
 use mathlib.Core.Bool.{true, false, not, cond, ◌&&◌}
@@ -34,11 +35,9 @@ use Rattle.packets.proofs.Handing.{back-held, handed-held}
 use Rattle.packets.specs.declared.Answer.TheVariants.{Started}
 use Rattle.packets.specs.declared.Begun.{Begun}
 use Rattle.packets.specs.declared.How.{How}
-use Rattle.packets.specs.declared.Motion.{Motion}
-use Rattle.packets.specs.declared.Motion.TheVariants.{Busy, Idle}
+use Rattle.packets.specs.State.{Motion}
 use Rattle.packets.specs.declared.Spot.{Spot}
-use Rattle.packets.specs.declared.Verdict.{Verdict}
-use Rattle.packets.specs.declared.Verdict.TheVariants.{Denied, Granted}
+use Rattle.packets.specs.State.{Verdict}
 
 -- ---- nothing of another job
 
@@ -72,7 +71,7 @@ finish-keeps s c how j p d u =
     (λ e. rw e (lock-holder s.units c (packet_in s.jobs j p).at true d u))
     (λ e. rw e)
 
-pub accept-same : (s : State) → Inv s → (x : Call) → refusal s x ≡ Granted → Same s (accept s x)
+pub accept-same : (s : State) → Inv s → (x : Call) → refusal s x ≡ Ok tt → Same s (accept s x)
 unfolding accept
 accept-same s I (Take k asg) r =
     λ c u i j a b. held-once (unit_in s.units c u).holder j i
@@ -86,8 +85,8 @@ accept-same s I (Do (Act'.Start c)) r = go (find (startable s c.0) s.queue)
 accept-same s I (Do (Act'.Complete c how)) r = go (motion_on s c.0)
   where
     go : (m : Motion) → Same s (completed s c.0 how m)
-    go Idle = same_kept s s (λ d u. refl)
-    go (Busy j p) =
+    go None = same_kept s s (λ d u. refl)
+    go (Some (j, p)) =
         λ d u i k a b. return-keeps s (finished s c.0 how j p) j (finish-keeps s c.0 how j p) d u i k a
         (back-held (return_if_done j (finished s c.0 how j p)).units c.0 (packet_in s.jobs j p).at d u k b)
 accept-same s I (Do (Act'.End k e)) r = return-keeps s (close (sweep s k always cut) k (closing e)) k (λ c u. refl)
@@ -102,11 +101,11 @@ unfolding step
 step_same s I x = go (refusal s x) refl
   where
     go : (n : Verdict) → refusal s x ≡ n → Same s (decided s x n).state
-    go Granted e = accept-same s I x e
-    go (Denied n) e = same_kept s s (λ c u. refl)
+    go (Ok u) e = accept-same s I x e
+    go (Err n) e = same_kept s s (λ c u. refl)
 
 -- who moves on the unit holds it
-pub mover : (h : Holding) (s : State) → Inv s → (j p : ℕ) → motion_on s h.channel ≡ Busy j p → (packet_in s.jobs j p).at ≡ its_unit h
+pub mover : (h : Holding) (s : State) → Inv s → (j p : ℕ) → motion_on s h.channel ≡ Some (j, p) → (packet_in s.jobs j p).at ≡ its_unit h
     → held_by (unit_in s.units h.channel h.unit).holder j ≡ true
 mover h s I j p e u =
     let k = I.motion h.channel j p e in
@@ -142,12 +141,12 @@ own-start h s I H d t seen x b e a u = go (refusal s (Start h.channel)) (rw e at
         )
 
     go : (n : Verdict) → (decided s (Start h.channel) n).answer ≡ Started b → (b.place ≡ h.place) × (t b.packet ≡ true)
-    go Granted g = by-entry (find (startable s h.channel) s.queue) refl g
-    go (Denied n) g = absurd (let z : ◌≡◌ {A = ℕ} 0 1 = cc in omega arith)
+    go (Ok u) g = by-entry (find (startable s h.channel) s.queue) refl g
+    go (Err n) g = absurd (let z : ◌≡◌ {A = ℕ} 0 1 = cc in omega arith)
 
 -- nothing of another job is moving on the unit
 abbrev pub Quiet : Holding → State → Type 0
-Quiet h s = (j p : ℕ) → motion_on s h.channel ≡ Busy j p → (packet_in s.jobs j p).at ≡ its_unit h → j ≡ h.place
+Quiet h s = (j p : ℕ) → motion_on s h.channel ≡ Some (j, p) → (packet_in s.jobs j p).at ≡ its_unit h → j ≡ h.place
 
 pub quiet-held : (h : Holding) (s : State) → Inv s → Holds s h → h.drum ≡ false → Quiet h s
 quiet-held h s I H d j p e u =

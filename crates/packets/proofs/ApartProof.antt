@@ -1,5 +1,6 @@
 -- Drum and core stay disjoint: only a taking changes what a place holds, and no other call makes a place live.
 -- Assumes nothing.
+use Rattle.std.proofs.Common.{None, Ok}
 use Prim.Native.Nat.{ℕ, ◌<◌}
 use mathlib.Core.Path.{◌≡◌, refl, sym, ap, ◌∙◌}
 use mathlib.Core.Bool.{Bool, true, false, cond, ◌&&◌}
@@ -66,13 +67,11 @@ use Rattle.packets.specs.declared.How.{How}
 use Rattle.packets.specs.declared.Job.{Job}
 use Rattle.packets.specs.declared.JobState.{JobState}
 use Rattle.packets.specs.declared.JobState.TheVariants.{Empty, Running}
-use Rattle.packets.specs.declared.Motion.TheVariants.{Idle}
 use Rattle.packets.specs.declared.Packet.{Packet}
 use Rattle.packets.specs.declared.Site.TheVariants.{AtUnit}
 use Rattle.packets.specs.declared.Spot.{Spot}
 use Rattle.packets.specs.declared.Status.{Status}
 use Rattle.packets.specs.declared.Status.TheVariants.{Ended, InProgress, Listed}
-use Rattle.packets.specs.declared.Verdict.TheVariants.{Granted}
 
 -- what a part says does not depend on packets or on the job's state
 pub record Lasting (part : Part) : Type 0 where
@@ -147,8 +146,8 @@ module _ (part : Part) (L : Lasting part) where
   same-finished s c how j p =
       let s₁ = over s c j p (code_for how) in
       let o : Held-on s s₁ =
-      same-trans (same-jobs s (move s c Idle) refl)
-      (same_store (move s c Idle) j p (with_status (packet_in s.jobs j p) (Ended (code_for how)))) in
+      same-trans (same-jobs s (move s c None) refl)
+      (same_store (move s c None) j p (with_status (packet_in s.jobs j p) (Ended (code_for how)))) in
       by_bool (is_trouble s.codes how && is_unit (packet_in s.jobs j p).at)
       (λ e. rw e (same-trans o (same-trans (same-sweep s₁ j (is_at c (packet_in s.jobs j p).at) failed)
       (same-jobs _ (broken s₁ c (packet_in s.jobs j p).at j) refl))))
@@ -176,7 +175,7 @@ module _ (part : Part) (L : Lasting part) where
       job : (i : ℕ) → job_in (set s.jobs j (fresh_job asg)) i ≡ cond (eqb i j) (fresh_job asg) (job_in s.jobs i)
       job i = get_d_set s.jobs j (fresh_job asg) i no_job inside
 
-  accept-apart : (s : State) → Inv s → Apart part s → (x : Call) → refusal s x ≡ Granted → Fits part s x → Apart part (accept s x)
+  accept-apart : (s : State) → Inv s → Apart part s → (x : Call) → refusal s x ≡ Ok tt → Fits part s x → Apart part (accept s x)
   unfolding accept
   accept-apart s I A (Take j asg) r f = apart-taken s j asg (rw I.places (assigns-to s j asg r).0) f A
   accept-apart s I A (Do (Act'.Submit j p f c w)) r k = apart-same s (submitted s j p f c.0 w) (same-submit s j p f c.0 w) A

@@ -1,5 +1,6 @@
 -- The page Before holds: an accepted failure has one of the 60 codes, so that where all are listed it sets interlock;
 -- no other call looks at the section. And there is such a section. Assumes nothing.
+use Rattle.std.proofs.Common.{None, Ok, Some}
 use Prim.Native.Nat.{ℕ, ◌-◌, ◌≤◌}
 use mathlib.Core.Path.{◌≡◌, refl}
 use mathlib.Core.Bool.{Bool, true, false, not, ◌||◌}
@@ -23,13 +24,11 @@ use Rattle.packets.specs.declared.Act.TheVariants as Act'
 use Rattle.packets.specs.State.{State, configured, is_idle, motion_on, moving_status}
 use Rattle.packets.specs.declared.How.{How}
 use Rattle.packets.specs.declared.How.TheVariants.{Cut, Failed, Full}
-use Rattle.packets.specs.declared.Motion.{Motion}
-use Rattle.packets.specs.declared.Motion.TheVariants.{Busy, Idle}
+use Rattle.packets.specs.State.{Motion}
 use Rattle.packets.specs.declared.Site.{Site}
 use Rattle.packets.specs.declared.Site.TheVariants.{AtUnit}
 use Rattle.packets.specs.declared.Spot.{Spot}
 use Rattle.packets.specs.declared.Status.{Status}
-use Rattle.packets.specs.declared.Verdict.TheVariants.{Granted}
 use Rattle.packets.proofs.Laws.{neither}
 use Rattle.packets.proofs.Told.{completes-on}
 
@@ -57,12 +56,12 @@ as_before s all c how r =
     (completed-same e (motion_on s c.0), completes-same e (motion_on s c.0))
   where
     completed-same : is_trouble s.codes how ≡ is_failure how → (m : Motion) → completed s c.0 how m ≡ completed_before s c.0 how m
-    completed-same e Idle = refl
-    completed-same e (Busy j p) = rw e
+    completed-same e None = refl
+    completed-same e (Some (j, p)) = rw e
 
     completes-same : is_trouble s.codes how ≡ is_failure how → (m : Motion) → completes s c.0 how m ≡ completes_before s c.0 how m
-    completes-same e Idle = refl
-    completes-same e (Busy j p) = rw e
+    completes-same e None = refl
+    completes-same e (Some (j, p)) = rw e
 
 -- ---- the section matters to completions alone
 
@@ -75,11 +74,11 @@ module _ (codes : ℕ) (s : State) where
   no-refusal (Do (Act'.Complete c how)) = by-motion (motion_on s c.0)
     where
       by-motion : (m : Motion) → first (not (configured s.channels c.0)) OutOfRange
-          (first (is_idle m) NothingInProgress (first (is_wrong (moving_status (with_codes codes s) m) how) WrongCompletion Granted))
+          (first (is_idle m) NothingInProgress (first (is_wrong (moving_status (with_codes codes s) m) how) WrongCompletion (Ok tt)))
           ≡ first (not (configured s.channels c.0)) OutOfRange
-          (first (is_idle m) NothingInProgress (first (is_wrong (moving_status s m) how) WrongCompletion Granted))
-      by-motion Idle = refl
-      by-motion (Busy j p) = refl
+          (first (is_idle m) NothingInProgress (first (is_wrong (moving_status s m) how) WrongCompletion (Ok tt)))
+      by-motion None = refl
+      by-motion (Some (j, p)) = refl
   no-refusal (Do (Act'.End j e)) = refl
   no-refusal (Do (Act'.Return j c u)) = refl
   no-refusal (Do (Act'.Mark c u m on)) = refl
@@ -95,8 +94,8 @@ module _ (codes : ℕ) (s : State) where
   starts-so c (some e) = (refl, refl)
 
   moves_so : (j c : ℕ) (a : Site) (m : Motion) → moves_at (with_codes codes s) j c a m ≡ moves_at s j c a m
-  moves_so j c a Idle = refl
-  moves_so j c a (Busy k p) = refl
+  moves_so j c a None = refl
+  moves_so j c a (Some (k, p)) = refl
 
   leaves-so : (x : Call) → is_completion x ≡ false → accept (with_codes codes s) x ≡ with_codes codes (accept s x)
   unfolding accept

@@ -1,5 +1,6 @@
 -- A closing job has a packet stopping, and what of it still moves is stopping: an end makes it so, nothing of a
 -- closing job starts, and at its last completion it is no longer closing. Assumes nothing.
+use Rattle.std.proofs.Common.{None, Ok, Some}
 use Prim.Native.Nat.{ℕ, zero, suc, ◌<◌}
 use mathlib.Core.Path.{◌≡◌, refl, sym, ap, ◌∙◌}
 use mathlib.Core.Bool.{Bool, true, false, not, cond, ◌&&◌}
@@ -53,11 +54,9 @@ use Rattle.packets.specs.declared.Carrier.{Carrier}
 use Rattle.packets.specs.declared.How.{How}
 use Rattle.packets.specs.declared.JobState.{JobState}
 use Rattle.packets.specs.declared.JobState.TheVariants.{Empty, Running}
-use Rattle.packets.specs.declared.Motion.{Motion}
-use Rattle.packets.specs.declared.Motion.TheVariants.{Busy, Idle}
+use Rattle.packets.specs.State.{Motion}
 use Rattle.packets.specs.declared.Status.{Status}
 use Rattle.packets.specs.declared.Status.TheVariants.{Blank, Ended, InProgress, Listed, Stopping}
-use Rattle.packets.specs.declared.Verdict.TheVariants.{Granted}
 
 -- ---- what is kept
 
@@ -89,15 +88,15 @@ some-any f (x ∷ l) d e =
     (λ t. (zero, t))
     (λ t. let r = some-any f l d (rw t at e) in (suc r.0, r.1))
 
-moves-busy : (j : ℕ) (m : Motion) → moves j m ≡ true → (p : ℕ) × (m ≡ Busy j p)
-moves-busy j Idle e = never {b = false} e refl
-moves-busy j (Busy k p) e = (p, rw (eqb-true k j e))
+moves-busy : (j : ℕ) (m : Motion) → moves j m ≡ true → (p : ℕ) × (m ≡ Some (j, p))
+moves-busy j None e = never {b = false} e refl
+moves-busy j (Some (k, p)) e = (p, rw (eqb-true k j e))
 
 -- a job of which a packet moves, if what of it moves is stopping
 still-halts : (s : State) → Inv s → (j : ℕ) → any_moves j s.moving ≡ true
     → ((n : ℕ) → in_motion (status_in s j n) ≡ true → status_in s j n ≡ Stopping) → Halting s j
 still-halts s I j a f =
-    let k = some-any (λ (m : Carrier). moves j m.motion) s.moving (carrying Idle) a in
+    let k = some-any (λ (m : Carrier). moves j m.motion) s.moving (carrying None) a in
     let b = moves-busy j (motion_on s k.0) k.1 in
     record { one = (b.0, f b.0 (I.motion k.0 j b.0 b.1).going); all = f }
 
@@ -127,7 +126,7 @@ running-closing : (t : JobState) → is_running t ≡ true → is_closing t ≡ 
 running-closing t r c = never {b = (is_running t)} r (closing-not-running t c).0
 
 -- a call that leaves the statuses of a place, and its state if it is not j
-elsewhere : (s : State) → Inv s → Halts s → (x : Call) → refusal s x ≡ Granted → (i : ℕ) → state_in (accept s x).jobs i ≡ state_in s.jobs i
+elsewhere : (s : State) → Inv s → Halts s → (x : Call) → refusal s x ≡ Ok tt → (i : ℕ) → state_in (accept s x).jobs i ≡ state_in s.jobs i
     → ((n : ℕ) → status_after s x i n ≡ status_in s i n) → is_closing (state_in (accept s x).jobs i) ≡ true → Halting (accept s x) i
 elsewhere s I H x r i e f c = same-halts s (accept s x) i (λ n. status-after s I x r i n ∙ f n) (H i (sym (ap is_closing e) ∙ c))
 
@@ -147,7 +146,7 @@ returns s I j f c =
 returns-other : (s : State) (j i : ℕ) → eqb i j ≡ false → state_in (return_if_done j s).jobs i ≡ state_in s.jobs i
 returns-other s j i o = by_bool (is_done s j) (λ d. rw d (states-returned s j d i ∙ rw o)) (λ d. rw d)
 
-accept-halts : (s : State) → Inv s → Halts s → (x : Call) → refusal s x ≡ Granted → Halts (accept s x)
+accept-halts : (s : State) → Inv s → Halts s → (x : Call) → refusal s x ≡ Ok tt → Halts (accept s x)
 unfolding accept status_after
 accept-halts s I H (Take j asg) r i c =
     let e = state-fresh s.jobs j asg i (rw I.places (assigns-to s j asg r).0) in
@@ -189,10 +188,10 @@ accept-halts s I H (Do (Act'.Complete g how)) r i c =
     elsewhere s I H (Complete g.0 how) r i e (λ n. rw (o.2, d)) c)
   where
     -- what of the job still moves is as it was
-    moved : (g : ℕ) (how : How) (j p : ℕ) → g < 16 → motion_on s g ≡ Busy j p → (n : ℕ) → is_closing (state_in s.jobs j) ≡ true
+    moved : (g : ℕ) (how : How) (j p : ℕ) → g < 16 → motion_on s g ≡ Some (j, p) → (n : ℕ) → is_closing (state_in s.jobs j) ≡ true
         → in_motion (status_in (finished s g how j p) j n) ≡ true → status_in (finished s g how j p) j n ≡ Stopping
     moved g how j p small is n x m =
-        let a : status_in (finished s g how j p) j n ≡ after_complete s g how (Busy j p) j n = finished-status s I g small how j p is j n in
+        let a : status_in (finished s g how j p) j n ≡ after_complete s g how (Some (j, p)) j n = finished-status s I g small how j p is j n in
         a ∙ go (is_packet j p j n)
         (eqb j j && ((is_trouble s.codes how && is_unit (packet_in s.jobs j p).at)
         && is_at g (packet_in s.jobs j p).at (packet_in s.jobs j n)))

@@ -1,4 +1,5 @@
 -- The page Codes holds: each store's effect on each packet, call by call. Assumes nothing.
+use Rattle.std.proofs.Common.{Ok, Some}
 use Prim.Native.Nat.{ℕ, ◌<◌}
 use mathlib.Core.Path.{◌≡◌, refl, ap, ◌∙◌}
 use mathlib.Core.Bool.{Bool, true, false, not, cond, ◌&&◌}
@@ -51,13 +52,11 @@ use Rattle.packets.proofs.Handing.{returns-inside, unit_site}
 use Rattle.packets.specs.declared.How.{How}
 use Rattle.packets.specs.declared.How.TheVariants.{Cut, Failed, Full}
 use Rattle.packets.specs.declared.JobState.TheVariants.{Empty}
-use Rattle.packets.specs.declared.Motion.TheVariants.{Busy}
 use Rattle.packets.specs.declared.Packet.{Packet}
 use Rattle.packets.specs.declared.Site.{Site}
 use Rattle.packets.specs.declared.Spot.{Spot}
 use Rattle.packets.specs.declared.Status.{Status}
 use Rattle.packets.specs.declared.Status.TheVariants.{Blank, Ended, InProgress, Listed}
-use Rattle.packets.specs.declared.Verdict.TheVariants.{Granted}
 
 -- one packet stored, and the packets of a job changed
 stored-status : (s : State) (j p : ℕ) (q : Packet) → p < size_in s.jobs j → (i n : ℕ)
@@ -117,8 +116,8 @@ code_is (Failed k) = refl
 returned-status : (s : State) (j i n : ℕ) → (packet_in (return_if_done j s).jobs i n).status ≡ (packet_in s.jobs i n).status
 returned-status s j i n = by_bool (is_done s j) (λ e. rw (e, packet-state s.jobs j Empty i n)) (λ e. rw e)
 
-module _ (s : State) (I : Inv s) (c : ℕ) (small : c < 16) (how : How) (j p : ℕ) (is : motion_on s c ≡ Busy j p) (i n : ℕ) where
-  pub finished-status : (packet_in (finished s c how j p).jobs i n).status ≡ after_complete s c how (Busy j p) i n
+module _ (s : State) (I : Inv s) (c : ℕ) (small : c < 16) (how : How) (j p : ℕ) (is : motion_on s c ≡ Some (j, p)) (i n : ℕ) where
+  pub finished-status : (packet_in (finished s c how j p).jobs i n).status ≡ after_complete s c how (Some (j, p)) i n
   finished-status =
       let q = with_status (packet_in s.jobs j p) (Ended (code_for how)) in
       let s₁ = over s c j p (code_for how) in
@@ -142,7 +141,7 @@ closed-status s j e r i n =
     ∙ swept-status s j always cut cut (λ x. refl) (alive-in s.jobs j (running-alive (state_in s.jobs j) r)) refl i n
     ∙ by_bool (eqb i j) (λ d. rw d) (λ d. rw d)
 
-pub status-after : (s : State) → Inv s → (x : Call) → refusal s x ≡ Granted → (i n : ℕ)
+pub status-after : (s : State) → Inv s → (x : Call) → refusal s x ≡ Ok tt → (i n : ℕ)
     → (packet_in (accept s x).jobs i n).status ≡ status_after s x i n
 unfolding accept status_after
 status-after s I (Take j asg) r i n =
@@ -173,7 +172,7 @@ codes l s r x g i n = status-after s (reached-inv l s r) x g i n
 -- ---- an ended packet keeps its code
 
 -- of the changes only a renewal changes an ended status; what starts or completes was listed or moved
-keeps-code : (s : State) → Inv s → (x : Call) → refusal s x ≡ Granted → (i n k : ℕ) → (packet_in s.jobs i n).status ≡ Ended k → renews x i n ≡ false
+keeps-code : (s : State) → Inv s → (x : Call) → refusal s x ≡ Ok tt → (i n k : ℕ) → (packet_in s.jobs i n).status ≡ Ended k → renews x i n ≡ false
     → status_after s x i n ≡ Ended k
 unfolding status_after
 keeps-code s I (Take j asg) r i n k e b = rw b e

@@ -1,5 +1,6 @@
 -- Demand 3 holds: the holding and its lone unit begin alike at the taking, and stay alike through the stretch.
 -- Assumes nothing.
+use Rattle.std.proofs.Common.{Err, None, Ok, Some}
 use Prim.Native.Nat.{ℕ, ◌<◌}
 use mathlib.Core.Path.{◌≡◌, refl, sym, ap, ◌∙◌}
 use mathlib.Core.Bool.{Bool, true, false, not, cond, ◌&&◌}
@@ -37,10 +38,8 @@ use Rattle.packets.specs.declared.Answer.TheVariants.{Refused}
 use Rattle.packets.specs.declared.Assignment.{Assignment}
 use Rattle.packets.specs.declared.JobState.{JobState}
 use Rattle.packets.specs.declared.JobState.TheVariants.{Running}
-use Rattle.packets.specs.declared.Motion.{Motion}
-use Rattle.packets.specs.declared.Motion.TheVariants.{Busy, Idle}
-use Rattle.packets.specs.declared.Verdict.{Verdict}
-use Rattle.packets.specs.declared.Verdict.TheVariants.{Denied, Granted}
+use Rattle.packets.specs.State.{Motion}
+use Rattle.packets.specs.State.{Verdict}
 
 -- ---- a stretch
 
@@ -55,8 +54,8 @@ unfolding step
 next h s I H l S t k x = go (refusal s x) refl
   where
     go : (n : Verdict) → refusal s x ≡ n → Next s.codes h l t x (decided s x n).answer (decided s x n).state
-    go Granted e = record { lone = accepted-follows h s I H l S t k x e; seen = accept-seen h s I H t k x e }
-    go (Denied n) e =
+    go (Ok u) e = record { lone = accepted-follows h s I H l S t k x e; seen = accept-seen h s I H t k x e }
+    go (Err n) e =
         record {
           lone = rw (lone-refused h t x n) (follows-none s.codes h l (Refused n) s S);
           seen = rw (noted-refused h t x n) k;
@@ -131,8 +130,8 @@ module _ (s : State) (I : Inv s) (j : ℕ) (asg : Assignment) (small : j < 16) (
       running-now = state-fresh s.jobs j asg h.place (rw I.places small) ∙ rw (at_j, eqb-self j)
 
       no-motion : (m : Motion) → motion_on s h.channel ≡ m → moving_there h (assigned s j asg).jobs m ≡ none
-      no-motion Idle e = refl
-      no-motion (Busy i p) e = rw (not-j i (I.motion h.channel i p e).alive)
+      no-motion None e = refl
+      no-motion (Some (i, p)) e = rw (not-j i (I.motion h.channel i p e).alive)
 
       -- the unit has just been taken
       taken-there : h.drum ≡ false → unit_in (take_all s.units j (wanted asg)) h.channel h.unit
@@ -156,7 +155,7 @@ module _ (s : State) (I : Inv s) (j : ℕ) (asg : Assignment) (small : j < 16) (
       not-asked-yet : return_there h (take_all s.units j (wanted asg)) ≡ false
       not-asked-yet = by_bool h.drum (λ d. rw d) (λ d. rw (d, taken-there d))
 
-pub assigned-sim : (s : State) → Inv s → (j : ℕ) (asg : Assignment) → refusal s (Take j asg) ≡ Granted → (h : Holding) → h.place ≡ j
+pub assigned-sim : (s : State) → Inv s → (j : ℕ) (asg : Assignment) → refusal s (Take j asg) ≡ Ok tt → (h : Holding) → h.place ≡ j
     → Holds (step s (Take j asg)).state h → Sim h (step s (Take j asg)).state new_lone
 unfolding accept
 assigned-sim s I j asg r h at_j H =
@@ -164,7 +163,7 @@ assigned-sim s I j asg r h at_j H =
     let e : (step s (Take j asg)).state ≡ assigned s j asg = ap (λ a. a.state) (step-accepted s (Take j asg) r) in
     rw e (new-sim s I j asg k.0 k.1 h at_j (rw e at H))
 
-pub assigned-seen : (s : State) → Inv s → (j : ℕ) (asg : Assignment) → refusal s (Take j asg) ≡ Granted → (h : Holding) → h.place ≡ j
+pub assigned-seen : (s : State) → Inv s → (j : ℕ) (asg : Assignment) → refusal s (Take j asg) ≡ Ok tt → (h : Holding) → h.place ≡ j
     → SeenOk h (step s (Take j asg)).state none_seen
 unfolding accept
 assigned-seen s I j asg r h at_j n =
@@ -184,7 +183,7 @@ returned-so h s I W l S d r =
     (λ t.
     let w = W h.channel h.unit (waits t) in
     let x : w.place ≡ h.place = held-once (unit_in s.units h.channel h.unit).holder w.place h.place w.held t in
-    let m : motion_on s h.channel ≡ Busy h.place w.packet = rw x at w.moves in
+    let m : motion_on s h.channel ≡ Some (h.place, w.packet) = rw x at w.moves in
     let u : (packet_in s.jobs h.place w.packet).at ≡ its_unit h = rw x at w.at in
     let y : there h (packet_in s.jobs h.place w.packet) ≡ true =
     is-there h (packet_in s.jobs h.place w.packet).channel.0 (packet_in s.jobs h.place w.packet).at d
@@ -200,11 +199,11 @@ returned-so h s I W l S d r =
 
     rests : held_by (unit_in s.units h.channel h.unit).holder h.place ≡ false → (m : Motion) → motion_on s h.channel ≡ m
         → moving_there h s.jobs m ≡ none
-    rests t Idle e = refl
-    rests t (Busy j p) e =
+    rests t None e = refl
+    rests t (Some (j, p)) e =
         by_bool (eqb j h.place && there h (packet_in s.jobs h.place p))
         (λ x. let z : j ≡ h.place = eqb-true j h.place (and_left (eqb j h.place) _ x) in
-        let e' : motion_on s h.channel ≡ Busy h.place p = rw z at e in
+        let e' : motion_on s h.channel ≡ Some (h.place, p) = rw z at e in
         let q = packet_in s.jobs h.place p in
         never {b = held_by (unit_in s.units h.channel h.unit).holder h.place}
         (mover h s I h.place p e' (there-unit h q.channel.0 q.at d (and_right (eqb j h.place) _ x))) t)

@@ -1,8 +1,8 @@
 -- A packet that is stopping goes on: no call but the completion on its channel ends it or moves it. Assumes nothing.
+use Rattle.std.proofs.Common.{Ok, Some}
 use Prim.Native.Nat.{ℕ}
 use mathlib.Core.Path.{◌≡◌, refl, sym, ap, subst, ◌∙◌}
 use mathlib.Core.Bool.{false, not, ◌&&◌}
-use native.Mathlib.Omega.{arith}
 use lib.Dec.{eqb}
 use borrow.Author.Tests.{eqb-true}
 use Rattle.numbers.proofs.Tests.{by_bool, never}
@@ -10,7 +10,7 @@ use Rattle.packets.proofs.CodesProof.{status-after}
 use Rattle.packets.proofs.Handing.{unit_site}
 use Rattle.packets.proofs.Inv.{EntryOk, Inv}
 use Rattle.packets.proofs.InvStores.{idle-is}
-use Rattle.packets.proofs.Laws.{and_left, and_right, find-holds}
+use Rattle.packets.proofs.Laws.{idle-moves, and_left, and_right, find-holds}
 use Rattle.packets.proofs.Movers.{another, at-kept, motion-kept}
 use Rattle.packets.proofs.Steps.{busy-of, find-some}
 use Rattle.packets.proofs.Told.{assigns-to, completes-on, starts-on, submits}
@@ -21,25 +21,22 @@ use Rattle.packets.proofs.ByNumber.{Complete, Start}
 use Rattle.packets.specs.declared.Act.TheVariants as Act'
 use Rattle.packets.specs.State.{State, is_empty, is_packet, is_unit, motion_on, packet_in, packet_of, place_of, state_in}
 use Rattle.packets.specs.declared.How.{How}
-use Rattle.packets.specs.declared.Motion.TheVariants.{Busy, Idle}
 use Rattle.packets.specs.declared.Status.TheVariants.{Stopping}
-use Rattle.packets.specs.declared.Verdict.TheVariants.{Granted}
 
 -- packet n of place i, stopping on channel c
 pub record Goes (s s' : State) (c i n : ℕ) : Type 0 where
-  pub moves : motion_on s' c ≡ Busy i n
+  pub moves : motion_on s' c ≡ Some (i, n)
   pub at : (packet_in s'.jobs i n).at ≡ (packet_in s.jobs i n).at
   pub stopping : (packet_in s'.jobs i n).status ≡ Stopping
 
-module _ (s : State) (I : Inv s) (c i n : ℕ) (is : motion_on s c ≡ Busy i n) (st : (packet_in s.jobs i n).status ≡ Stopping) where
+module _ (s : State) (I : Inv s) (c i n : ℕ) (is : motion_on s c ≡ Some (i, n)) (st : (packet_in s.jobs i n).status ≡ Stopping) where
   -- nothing starts on a busy channel
-  no_start : (x : Call) → refusal s x ≡ Granted → x ≡ Start c → ⊥
+  no_start : (x : Call) → refusal s x ≡ Ok tt → x ≡ Start c → ⊥
   no_start x r q =
-      let r' : refusal s (Start c) ≡ Granted = subst (λ (y : Call). refusal s y ≡ Granted) q r in
-      let z : Busy i n ≡ Idle = sym is ∙ idle-is s I c (starts-on s c r').1 in
-      let y : ◌≡◌ {A = ℕ} 0 1 = cc in omega arith
+      let r' : refusal s (Start c) ≡ Ok tt = subst (λ (y : Call). refusal s y ≡ Ok tt) q r in
+      idle-moves i n (sym (idle-is s I c (starts-on s c r').1) ∙ is)
 
-  stays-stopping : (x : Call) → refusal s x ≡ Granted → ((how : How) → x ≡ Complete c how → ⊥) → status_after s x i n ≡ Stopping
+  stays-stopping : (x : Call) → refusal s x ≡ Ok tt → ((how : How) → x ≡ Complete c how → ⊥) → status_after s x i n ≡ Stopping
   unfolding status_after
   stays-stopping (Take j asg) r o =
       by_bool (eqb i j)
@@ -69,7 +66,7 @@ module _ (s : State) (I : Inv s) (c i n : ℕ) (is : motion_on s c ≡ Busy i n)
       (λ t.
       let a : i ≡ j = eqb-true i j (and_left (eqb i j) _ t) in
       let b : n ≡ p = eqb-true n p (and_right (eqb i j) _ t) in
-      let is' : motion_on s c ≡ Busy j p = rw (a, b) at is in
+      let is' : motion_on s c ≡ Some (j, p) = rw (a, b) at is in
       absurd (o how (ap (λ (e : ℕ). Complete e how) (sym (I.motion d.0 j p y.2).channel ∙ (I.motion c j p is').channel))))
       (λ t. t) in
       rw (y.2, other, st)
@@ -81,7 +78,7 @@ module _ (s : State) (I : Inv s) (c i n : ℕ) (is : motion_on s c ≡ Busy i n)
       rw st (by_bool (eqb i j && is_at d.0 (unit_site v.0) (packet_in s.jobs i n)) (λ t. rw t) (λ t. rw t))
   stays-stopping (Do (Act'.Mark d v m on)) r o = st
 
-  pub goes : (x : Call) → refusal s x ≡ Granted → ((how : How) → x ≡ Complete c how → ⊥) → Goes s (accept s x) c i n
+  pub goes : (x : Call) → refusal s x ≡ Ok tt → ((how : How) → x ≡ Complete c how → ⊥) → Goes s (accept s x) c i n
   goes x r o =
       record {
         moves = motion-kept s I x r c (no_start x r) o ∙ is;

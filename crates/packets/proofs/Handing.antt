@@ -1,11 +1,11 @@
 -- One unit gets another holder: what that leaves of the units, and that it keeps the invariant where nothing is listed
 -- on the unit and what moves there is of the holder. So a completion gives back a unit that is being returned, and a
 -- return frees its unit or lets it wait for what moves there. Assumes nothing.
+use Rattle.std.proofs.Common.{None, Some}
 use Prim.Native.Nat.{ℕ, ◌<◌}
 use mathlib.Core.Path.{◌≡◌, refl, sym, ◌∙◌}
 use mathlib.Core.Bool.{true, false, cond, ◌&&◌}
 use mathlib.Core.List.{List}
-use native.Mathlib.Omega.{arith}
 use lib.ListN.{length}
 use lib.Dec.{eqb}
 use borrow.Author.Tests.{eqb-true}
@@ -17,7 +17,7 @@ use Rattle.units.specs.declared.Unit.{Unit as UnitState}
 use Rattle.packets.proofs.Inv.{EntryOk, Inv, Owned, OwnedAt, running-alive}
 use Rattle.packets.proofs.InvJobs.{held-once, held-taken}
 use Rattle.packets.proofs.InvStores.{motion-move, sweep-inv}
-use Rattle.packets.proofs.Laws.{all_both, all-imp, and_left, and_right, eqb-self}
+use Rattle.packets.proofs.Laws.{idle-moves, all_both, all-imp, and_left, and_right, eqb-self}
 use Rattle.packets.proofs.Sites.{same-is}
 use Rattle.packets.proofs.Store.{alive-in, packet-restatus, unit-keep, unit-set}
 use Rattle.packets.proofs.Told.{Returns, cut-going, cut-unlisted}
@@ -44,7 +44,6 @@ use Rattle.packets.specs.State.{
   with_holder,
 }
 use Rattle.packets.specs.declared.How.{How}
-use Rattle.packets.specs.declared.Motion.TheVariants.{Busy, Idle}
 use Rattle.packets.specs.declared.Packet.{Packet}
 use Rattle.packets.specs.declared.Site.{Site}
 use Rattle.packets.specs.declared.Site.TheVariants.{AtAddress, AtUnit}
@@ -99,7 +98,7 @@ Quiet s c u = All (λ (e : ℕ). is_at c (unit_site u) (packet_in s.jobs (place_
 
 module _ (s : State) (I : Inv s) (c u : ℕ) (h : Holder) (taken : is_free (unit_in s.units c u).holder ≡ false)
     (who : (i : ℕ) → held_by h i ≡ true → held_by (unit_in s.units c u).holder i ≡ true) (quiet : Quiet s c u)
-    (moving : (d j p : ℕ) → motion_on s d ≡ Busy j p → is_at c (unit_site u) (packet_in s.jobs j p) ≡ true → held_by h j ≡ true) where
+    (moving : (d j p : ℕ) → motion_on s d ≡ Some (j, p) → is_at c (unit_site u) (packet_in s.jobs j p) ≡ true → held_by h j ≡ true) where
   pub hold-inv : Inv (hold s c (unit_site u) h)
   hold-inv =
       record {
@@ -159,13 +158,13 @@ pub return-motion : (s : State) (j d : ℕ) → motion_on (return_if_done j s) d
 return-motion s j d = by_bool (is_done s j) (λ e. rw e) (λ e. rw e)
 
 -- and after a completion nothing moves on its channel
-pub completed-idle : (s : State) → Inv s → (c : ℕ) → c < 16 → (how : How) (j p : ℕ) → motion_on (return_if_done j (finished s c how j p)) c ≡ Idle
+pub completed-idle : (s : State) → Inv s → (c : ℕ) → c < 16 → (how : How) (j p : ℕ) → motion_on (return_if_done j (finished s c how j p)) c ≡ None
 completed-idle s I c small how j p =
-    let m : motion_on (move s c Idle) c ≡ Idle = motion-move s c Idle c (rw I.channels small) ∙ rw (eqb-self c) in
+    let m : motion_on (move s c None) c ≡ None = motion-move s c None c (rw I.channels small) ∙ rw (eqb-self c) in
     return-motion (finished s c how j p) j c
     ∙ by_bool (is_trouble s.codes how && is_unit (packet_in s.jobs j p).at) (λ e. rw e m) (λ e. rw e m)
 
-pub back-inv : (s : State) → Inv s → (c : ℕ) (a : Site) → motion_on s c ≡ Idle → Inv (free_if_returning s c a)
+pub back-inv : (s : State) → Inv s → (c : ℕ) (a : Site) → motion_on s c ≡ None → Inv (free_if_returning s c a)
 back-inv s I c (AtAddress x) idle = I
 back-inv s I c (AtUnit u) idle =
     by_bool (is_returning (unit_in s.units c u.0).holder)
@@ -174,11 +173,11 @@ back-inv s I c (AtUnit u) idle =
     (λ d j p e k. absurd (none d j p e (eqb-true _ c (and_left (eqb (packet_in s.jobs j p).channel.0 c) _ k))))))
     (λ t. rw t I)
   where
-    none : (d j p : ℕ) → motion_on s d ≡ Busy j p → (packet_in s.jobs j p).channel.0 ≡ c → ⊥
+    none : (d j p : ℕ) → motion_on s d ≡ Some (j, p) → (packet_in s.jobs j p).channel.0 ≡ c → ⊥
     none d j p e on =
         let x : d ≡ c = sym (I.motion d j p e).channel ∙ on in
-        let z : Idle ≡ Busy j p = sym idle ∙ (rw x at e) in
-        absurd (let y : ◌≡◌ {A = ℕ} 0 1 = cc in omega arith)
+        let e' : motion_on s c ≡ Some (j, p) = rw x at e in
+        idle-moves j p (sym idle ∙ e')
 
     quiet : is_returning (unit_in s.units c u.0).holder ≡ true → Quiet s c u.0
     quiet t =
@@ -236,12 +235,12 @@ module _ (s : State) (I : Inv s) (j c u : ℕ) (k : Returns s j c u) where
       (sweep s j (is_at c (unit_site u)) cut).queue swept-inv.queued
 
   -- what moves on the unit is of the job, and is what the return looks for
-  pub moves-there : (d i n : ℕ) → motion_on s d ≡ Busy i n → is_at c (unit_site u) (packet_in s.jobs i n) ≡ true
+  pub moves-there : (d i n : ℕ) → motion_on s d ≡ Some (i, n) → is_at c (unit_site u) (packet_in s.jobs i n) ≡ true
       → (i ≡ j) × (moves_at s j c (unit_site u) (motion_on s c) ≡ true)
   moves-there d i n e t =
       let x : i ≡ j = at_held s j c u k.held i (packet_in s.jobs i n) (I.motion d i n e).owned t in
       let y : d ≡ c = sym (I.motion d i n e).channel ∙ eqb-true _ c (and_left (eqb (packet_in s.jobs i n).channel.0 c) _ t) in
-      let e' : motion_on s c ≡ Busy j n = rw (x, y) at e in
+      let e' : motion_on s c ≡ Some (j, n) = rw (x, y) at e in
       (x, rw (e', eqb-self j) (rw x at t))
 
   -- who holds the unit then

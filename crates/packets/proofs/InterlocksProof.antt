@@ -1,5 +1,6 @@
 -- The page Interlocks holds of every cell with the invariants: what each call does to the interlock of each unit.
 -- Assumes nothing.
+use Rattle.std.proofs.Common.{Ok, Some}
 use Prim.Native.Nat.{ℕ}
 use mathlib.Core.Path.{◌≡◌, refl, ◌∙◌}
 use mathlib.Core.Bool.{Bool, true, false, cond, ◌&&◌, ◌||◌}
@@ -18,11 +19,9 @@ use Rattle.packets.specs.declared.Act.TheVariants as Act'
 use Rattle.packets.specs.State.{State, held_by, is_empty, is_unit, motion_on, packet_in, set_lock, state_in, unit_at, wanted, with_lock}
 use Rattle.packets.specs.declared.Assignment.{Assignment}
 use Rattle.packets.specs.declared.How.{How}
-use Rattle.packets.specs.declared.Motion.TheVariants.{Busy}
 use Rattle.packets.specs.declared.Site.{Site}
 use Rattle.packets.specs.declared.Site.TheVariants.{AtAddress, AtUnit}
 use Rattle.packets.specs.declared.Spot.{Spot}
-use Rattle.packets.specs.declared.Verdict.TheVariants.{Granted}
 use Rattle.packets.proofs.Inv.{Inv, OwnedAt}
 use Rattle.packets.proofs.InvJobs.{held-taken}
 use Rattle.packets.proofs.Laws.{and_left, and_right, eqb-self}
@@ -63,7 +62,7 @@ module _ (s : State) (I : Inv s) (c u : ℕ) where
   now = (unit_in s.units c u).interlock
 
   -- a completion on channel d of packet p of place j
-  finished-lock : (d : ℕ) (how : How) (j p : ℕ) → motion_on s d ≡ Busy j p
+  finished-lock : (d : ℕ) (how : How) (j p : ℕ) → motion_on s d ≡ Some (j, p)
       → (unit_in (finished s d how j p).units c u).interlock ≡ (is_trouble s.codes how && is_that c u d (packet_in s.jobs j p).at) || now
   finished-lock d how j p is =
       let a = (packet_in s.jobs j p).at in
@@ -98,7 +97,7 @@ module _ (s : State) (I : Inv s) (c u : ℕ) where
       (λ e. rw (e, eqb-self j))
       (λ e. rw e (by_bool (held_by v.holder j) (λ h. never {b = is_empty (state_in s.jobs j)} empty (I.holders c u j h)) (λ h. rw h))))
 
-  pub lock-after : (x : Call) → refusal s x ≡ Granted → (unit_in (accept s x).units c u).interlock ≡ interlock_after s x c u
+  pub lock-after : (x : Call) → refusal s x ≡ Ok tt → (unit_in (accept s x).units c u).interlock ≡ interlock_after s x c u
   unfolding accept interlock_after
   lock-after (Take j asg) r = taken-lock j asg (assigns-to s j asg r).1
   lock-after (Do (Act'.Submit j p f d w)) r = submitted-lock j p f d.0 w (submits s j p f d.0 w r)

@@ -1,5 +1,6 @@
 -- What holds in every cell that calls lead to: the invariant, and what becomes of the list when packets change.
 -- Assumes nothing.
+use Rattle.std.proofs.Common.{Some}
 use Prim.Native.Nat.{ℕ}
 use mathlib.Core.Path.{◌≡◌, refl, sym, ◌∙◌}
 use mathlib.Core.Bool.{true, false, not}
@@ -18,7 +19,6 @@ use Rattle.packets.proofs.Store.{size_in}
 use Rattle.packets.specs.declared.Job.{Job}
 use Rattle.packets.specs.declared.JobState.{JobState}
 use Rattle.packets.specs.declared.JobState.TheVariants.{ClosingError, ClosingNormal, Empty, Running}
-use Rattle.packets.specs.declared.Motion.TheVariants.{Busy}
 use Rattle.packets.specs.declared.Packet.{Packet}
 use Rattle.packets.specs.declared.Site.{Site}
 use Rattle.packets.specs.declared.Status.{Status}
@@ -76,7 +76,7 @@ pub record Inv (s : State) : Type 0 where
   pub channels : length s.moving ≡ 16
   pub queued : All (EntryOk s) s.queue
   pub single : Nodup eqb s.queue
-  pub motion : (c j p : ℕ) → motion_on s c ≡ Busy j p → OkMotion s c j p
+  pub motion : (c j p : ℕ) → motion_on s c ≡ Some (j, p) → OkMotion s c j p
   pub holders : (c u j : ℕ) → held_by (unit_in s.units c u).holder j ≡ true → is_empty (state_in s.jobs j) ≡ false
 
 -- what is no longer listed leaves no repeat

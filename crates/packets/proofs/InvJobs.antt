@@ -1,4 +1,5 @@
 -- A job that closes, returns its facilities or is taken keeps the invariant. Assumes nothing.
+use Rattle.std.proofs.Common.{Some}
 use Prim.Native.Nat.{ℕ, ◌<◌}
 use mathlib.Core.Path.{◌≡◌, refl, sym, ◌∙◌}
 use mathlib.Core.Bool.{Bool, true, false, not, cond, ◌&&◌}
@@ -21,7 +22,6 @@ use Rattle.packets.proofs.Store.{state-fresh, state-state, unit-release, unit-ta
 use Rattle.packets.specs.declared.Assignment.{Assignment}
 use Rattle.packets.specs.declared.JobState.{JobState}
 use Rattle.packets.specs.declared.JobState.TheVariants.{Empty, Running}
-use Rattle.packets.specs.declared.Motion.TheVariants.{Busy}
 use Rattle.packets.specs.declared.Packet.{Packet}
 use Rattle.packets.specs.declared.Site.{Site}
 use Rattle.packets.specs.declared.Site.TheVariants.{AtAddress, AtUnit}
@@ -85,7 +85,7 @@ module _ (s : State) (I : Inv s) (j : ℕ) (inside : j < length s.jobs) (none-li
           let b : is_empty (cond (eqb i j) t (state_in s.jobs i)) ≡ false = rw (state-state s.jobs j t i inside) at a in
           by_bool (eqb i j) (λ e. rw (eqb-true i j e) was) (λ e. rw e at b)
 
-  pub returned-inv : ((c p : ℕ) → motion_on s c ≡ Busy j p → ⊥) → Inv (returned s j)
+  pub returned-inv : ((c p : ℕ) → motion_on s c ≡ Some (j, p) → ⊥) → Inv (returned s j)
   returned-inv none-moving =
       record {
         sizes = λ i a. rw (size-state s.jobs j Empty i) (I.sizes i (before i a).1);
@@ -103,7 +103,7 @@ module _ (s : State) (I : Inv s) (j : ℕ) (inside : j < length s.jobs) (none-li
         holders = holds;
       }
     where
-      apart : (c i n : ℕ) → motion_on s c ≡ Busy i n → eqb i j ≡ false
+      apart : (c i n : ℕ) → motion_on s c ≡ Some (i, n) → eqb i j ≡ false
       apart c i n e = by_bool (eqb i j) (λ t. absurd (none-moving c n (rw (eqb-true i j t) at e))) (λ t. t)
 
       after : (i : ℕ) → eqb i j ≡ false → is_empty (state_in s.jobs i) ≡ false → is_empty (state_in (set_state s.jobs j Empty) i) ≡ false

@@ -1,4 +1,5 @@
 -- Each store of the rules into the jobs, the list and the channels keeps the invariant. Assumes nothing.
+use Rattle.std.proofs.Common.{None, Some}
 use Prim.Native.Nat.{ℕ, ◌≤◌, ◌<◌}
 use mathlib.Core.Path.{◌≡◌, refl, sym, ap, ◌∙◌, subst}
 use mathlib.Core.Bool.{Bool, true, false, cond, ◌&&◌}
@@ -14,14 +15,13 @@ use Rattle.packets.proofs.Inv.{listed-busy, motion-busy, requeued, running-alive
 use Rattle.packets.specs.State.{in_motion, State, enlisted, enqueue, entry_of, is_busy, is_idle, is_listed, motion_on, move}
 use Rattle.packets.specs.State.{packet_in, packet_of, packets_in, place_of, put, restatus_all, state_in, store, sweep}
 use Rattle.numbers.specs.Elements.{All}
-use Rattle.packets.proofs.Laws.{all_append, all-imp, and_left, and_right}
+use Rattle.packets.proofs.Laws.{idle-moves, same-motion, all_append, all-imp, and_left, and_right}
 use Rattle.packets.proofs.Once.{few, nodup-snoc}
 use Rattle.packets.proofs.Store.{alive-in, busy-in, length-put, length-restatus, packet-put, packet-restatus}
 use Rattle.packets.proofs.Store.{size-put, size-restatus, size_in, state-put, state-restatus}
 use Rattle.packets.specs.declared.Carrier.{Carrier}
 use Rattle.packets.specs.declared.Job.{Job}
-use Rattle.packets.specs.declared.Motion.{Motion}
-use Rattle.packets.specs.declared.Motion.TheVariants.{Busy, Idle}
+use Rattle.packets.specs.State.{Motion}
 use Rattle.packets.specs.declared.Packet.{Packet}
 use Rattle.packets.specs.declared.Status.{Status}
 use Rattle.packets.specs.declared.Status.TheVariants.{Blank}
@@ -38,7 +38,7 @@ restatus-elsewhere jobs j t f inside fb i n d = packet-restatus jobs j t f i n i
 
 module _ (s : State) (I : Inv s) (j p : ℕ) (q : Packet) (fits : p < size_in s.jobs j)
     (spot : Spots (packet_in s.jobs j p) q)
-    (going : (c : ℕ) → motion_on s c ≡ Busy j p → in_motion q.status ≡ true) where
+    (going : (c : ℕ) → motion_on s c ≡ Some (j, p) → in_motion q.status ≡ true) where
   store-spots : (i n : ℕ) → Spots (packet_in s.jobs i n) (packet_in (put s.jobs j p q) i n)
   store-spots i n b =
       rw (packet-put s.jobs j p q i n fits)
@@ -51,7 +51,7 @@ module _ (s : State) (I : Inv s) (j p : ℕ) (q : Packet) (fits : p < size_in s.
       → Owned s i (packet_in (put s.jobs j p q) i n)
   store-owned i n b o = rw ((store-spots i n b).0, (store-spots i n b).1) o
 
-  store-going : (c i n : ℕ) → motion_on s c ≡ Busy i n → in_motion (packet_in (put s.jobs j p q) i n).status ≡ true
+  store-going : (c i n : ℕ) → motion_on s c ≡ Some (i, n) → in_motion (packet_in (put s.jobs j p q) i n).status ≡ true
   store-going c i n e =
       rw (packet-put s.jobs j p q i n fits)
       (by_bool (eqb i j && eqb n p)
@@ -211,11 +211,11 @@ enqueue-inv s I j p n =
 -- what a channel moves after a move
 pub motion-move : (s : State) (c : ℕ) (m : Motion) (d : ℕ) → c < length s.moving → motion_on (move s c m) d ≡ cond (eqb d c) m (motion_on s d)
 motion-move s c m d h =
-    ap (λ (x : Carrier). x.motion) (get_d_set s.moving c (record { motion = m }) d (record { motion = Idle }) h)
+    ap (λ (x : Carrier). x.motion) (get_d_set s.moving c (record { motion = m }) d (record { motion = None }) h)
     ∙ by_bool (eqb d c) (λ e. rw e) (λ e. rw e)
 
 pub remove : (s : State) → Inv s → (moving : List Carrier) → length moving ≡ 16
-    → ((c j p : ℕ) → (get_or moving c (record { motion = Idle })).motion ≡ Busy j p → OkMotion s c j p)
+    → ((c j p : ℕ) → (get_or moving c (record { motion = None })).motion ≡ Some (j, p) → OkMotion s c j p)
     → Inv (record { channels = s.channels; codes = s.codes; units = s.units; moving = moving; jobs = s.jobs; queue = s.queue })
 remove s I moving len f =
     record {
@@ -230,31 +230,30 @@ remove s I moving len f =
       motion = λ c i n e. record { going = (f c i n e).going; channel = (f c i n e).channel; alive = (f c i n e).alive; owned = (f c i n e).owned };
     }
 
-pub idle-inv : (s : State) → Inv s → (c : ℕ) → c < 16 → Inv (move s c Idle)
+pub idle-inv : (s : State) → Inv s → (c : ℕ) → c < 16 → Inv (move s c None)
 idle-inv s I c h =
-    remove s I (set s.moving c (record { motion = Idle })) (length-set s.moving c (record { motion = Idle }) ∙ I.channels)
-    (λ d j p e. let e' : cond (eqb d c) Idle (motion_on s d) ≡ Busy j p = sym (motion-move s c Idle d (rw I.channels h)) ∙ e in
+    remove s I (set s.moving c (record { motion = None })) (length-set s.moving c (record { motion = None }) ∙ I.channels)
+    (λ d j p e. let e' : cond (eqb d c) None (motion_on s d) ≡ Some (j, p) = sym (motion-move s c None d (rw I.channels h)) ∙ e in
     by_bool (eqb d c)
-    (λ t. let z : Idle ≡ Busy j p = rw t at e' in absurd (let y : ◌≡◌ {A = ℕ} 0 1 = cc in omega arith))
+    (λ t. absurd (idle-moves j p (rw t at e')))
     (λ t. I.motion d j p (rw t at e')))
 
-pub busy-inv : (s : State) → Inv s → (c j p : ℕ) → c < 16 → OkMotion s c j p → Inv (move s c (Busy j p))
+pub busy-inv : (s : State) → Inv s → (c j p : ℕ) → c < 16 → OkMotion s c j p → Inv (move s c (Some (j, p)))
 busy-inv s I c j p h k =
-    remove s I (set s.moving c (record { motion = Busy j p })) (length-set s.moving c (record { motion = Busy j p }) ∙ I.channels)
-    (λ d i n e. let e' : cond (eqb d c) (Busy j p) (motion_on s d) ≡ Busy i n = sym (motion-move s c (Busy j p) d (rw I.channels h)) ∙ e in
+    remove s I (set s.moving c (record { motion = Some (j, p) })) (length-set s.moving c (record { motion = Some (j, p) }) ∙ I.channels)
+    (λ d i n e. let e' : cond (eqb d c) (Some (j, p)) (motion_on s d) ≡ Some (i, n) = sym (motion-move s c (Some (j, p)) d (rw I.channels h)) ∙ e in
     by_bool (eqb d c)
-    (λ t. let z : Busy j p ≡ Busy i n = rw t at e' in
-    let x : j ≡ i = cc in let y : p ≡ n = cc in let w : d ≡ c = eqb-true d c t in
-    rw (w, ← x, ← y) k)
+    (λ t. let z = same-motion j p i n (rw t at e') in let w : d ≡ c = eqb-true d c t in
+    rw (w, ← z.0, ← z.1) k)
     (λ t. I.motion d i n (rw t at e')))
 
 -- what moves is a packet of the cell
-pub idle-is : (s : State) → Inv s → (c : ℕ) → is_idle (motion_on s c) ≡ true → motion_on s c ≡ Idle
+pub idle-is : (s : State) → Inv s → (c : ℕ) → is_idle (motion_on s c) ≡ true → motion_on s c ≡ None
 idle-is s I c e = go (motion_on s c) refl
   where
-    go : (m : Motion) → motion_on s c ≡ m → motion_on s c ≡ Idle
-    go Idle q = q
-    go (Busy j p) q =
+    go : (m : Motion) → motion_on s c ≡ m → motion_on s c ≡ None
+    go None q = q
+    go (Some (j, p)) q =
         let k = I.motion c j p q in
         let a : j < length s.jobs = alive-in s.jobs j k.alive in
         let b : p < size_in s.jobs j = busy-in s.jobs j p (motion-busy (packet_in s.jobs j p).status k.going) in

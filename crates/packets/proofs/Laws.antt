@@ -1,7 +1,8 @@
 -- Laws of tests, of lists under a test, and of an array after one store. Assumes nothing.
+use Rattle.std.proofs.Common.{Ok, Some, None, is_none}
 use Prim.Native.Nat.{ℕ, zero, suc, ◌+◌, ◌<◌}
 use mathlib.Core.Path.{◌≡◌, refl, sym, ap, ◌∙◌, subst}
-use mathlib.Core.Bool.{Bool, true, false, ◌&&◌, ◌||◌}
+use mathlib.Core.Bool.{Bool, true, false, cond, ◌&&◌, ◌||◌}
 use mathlib.Core.List.{List, [], ◌∷◌, ◌++◌, map}
 use mathlib.Core.Option.{some}
 use native.Mathlib.Omega.{arith}
@@ -13,8 +14,7 @@ use Rattle.numbers.proofs.Tests.{by_bool, never}
 use Rattle.numbers.specs.declared.Refusal.{Refusal}
 use Rattle.numbers.specs.Elements.{any, find, keep, map_from, All}
 use Rattle.packets.specs.Rules.{first}
-use Rattle.packets.specs.declared.Verdict.{Verdict}
-use Rattle.packets.specs.declared.Verdict.TheVariants.{Granted}
+use Rattle.packets.specs.State.{Motion, Verdict}
 
 -- ---- tests
 
@@ -36,9 +36,28 @@ pub neither : (a b : Bool) → a || b ≡ false → (a ≡ false) × (b ≡ fals
 neither true b e = never {b = true} refl e
 neither false b e = (refl, e)
 
-pub passes : (b : Bool) (n : Refusal) (r : Verdict) → first b n r ≡ Granted → (b ≡ false) × (r ≡ Granted)
+pub passes : (b : Bool) (n : Refusal) (r : Verdict) → first b n r ≡ Ok tt → (b ≡ false) × (r ≡ Ok tt)
 passes true n r e = absurd (let z : ◌≡◌ {A = ℕ} 0 1 = cc in omega arith)
 passes false n r e = (refl, e)
+
+-- ---- what moves
+
+abbrev motion_place : Motion → ℕ
+motion_place None = 0
+motion_place (Some (j, p)) = j
+
+abbrev motion_packet : Motion → ℕ
+motion_packet None = 0
+motion_packet (Some (j, p)) = p
+
+-- the same motion is of the same place and packet
+pub same-motion : (j p i n : ℕ) → ◌≡◌ {A = Motion} (Some (j, p)) (Some (i, n)) → (j ≡ i) × (p ≡ n)
+same-motion j p i n e = (ap motion_place e, ap motion_packet e)
+
+pub idle-moves : (j p : ℕ) → ◌≡◌ {A = Motion} None (Some (j, p)) → ⊥
+idle-moves j p e = let y : ◌≡◌ {A = ℕ} 0 1 = ap (λ (m : Motion). cond (is_none m) 0 1) e in omega arith
+
+-- ---- tests of numbers
 
 pub eqb-self : (a : ℕ) → eqb a a ≡ true
 eqb-self a = eq-eqb a a refl

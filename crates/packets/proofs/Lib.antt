@@ -42,3 +42,4 @@ pub mod AlwaysProof
 pub mod MarkLaws
 pub mod PickLaws
 pub mod ByNumber
+pub mod MapLaws

@@ -1,5 +1,6 @@
 -- What moves stays what it is: only a start and a completion change what a channel carries, and no call changes where a
 -- packet that moves was submitted. So what moves is at a unit without interlock. Assumes nothing.
+use Rattle.std.proofs.Common.{None, Ok, Some}
 use Prim.Native.Nat.{ℕ}
 use mathlib.Core.Path.{◌≡◌, refl, sym, ap, ◌∙◌}
 use mathlib.Core.Bool.{false, ◌&&◌}
@@ -16,7 +17,7 @@ use Rattle.packets.proofs.Handing.{completed-idle, return-motion, returns-inside
 use Rattle.packets.proofs.InterlocksProof.{lock-after}
 use Rattle.packets.proofs.Inv.{EntryOk, Inv, listed-busy, running-alive}
 use Rattle.packets.proofs.InvStores.{motion-move}
-use Rattle.packets.proofs.Laws.{and_left, and_right, eqb-self, find-holds}
+use Rattle.packets.proofs.Laws.{idle-moves, same-motion, and_left, and_right, eqb-self, find-holds}
 use Rattle.packets.proofs.SeenLaws.{calm-finished, calm_return, calm-same, calm-status, calm-submit, calm-sweep, calm-trans}
 use Rattle.packets.proofs.StepSubmit.{Ready, ready-still}
 use Rattle.packets.proofs.Steps.{busy-of, find-some, fresh-inv, fresh-state, start-at, start_fits, startable-on, reached-inv}
@@ -68,14 +69,12 @@ use Rattle.packets.specs.State.{
   unit_at,
 }
 use Rattle.packets.specs.declared.How.{How}
-use Rattle.packets.specs.declared.Motion.{Motion}
-use Rattle.packets.specs.declared.Motion.TheVariants.{Busy, Idle}
+use Rattle.packets.specs.State.{Motion}
 use Rattle.packets.specs.declared.Packet.{Packet}
 use Rattle.packets.specs.declared.Site.{Site}
 use Rattle.packets.specs.declared.Site.TheVariants.{AtAddress, AtUnit}
 use Rattle.packets.specs.declared.Spot.{Spot}
 use Rattle.packets.specs.declared.Status.TheVariants.{InProgress}
-use Rattle.packets.specs.declared.Verdict.TheVariants.{Granted}
 
 -- ---- what a channel carries
 
@@ -84,12 +83,12 @@ submit-motion s j p f d w c =
     by_bool (eqb f 0o07) (λ e. by_bool (locked s d (site_of w)) (λ l. rw (e, l)) (λ l. rw (e, l)))
     (λ e. by_bool (eqb f 0o23) (λ l. rw (e, l)) (λ l. rw (e, l)))
 
-pub finished-motion : (s : State) (d : ℕ) (how : How) (j p c : ℕ) → motion_on (finished s d how j p) c ≡ motion_on (move s d Idle) c
+pub finished-motion : (s : State) (d : ℕ) (how : How) (j p c : ℕ) → motion_on (finished s d how j p) c ≡ motion_on (move s d None) c
 finished-motion s d how j p c =
     by_bool (is_trouble s.codes how && is_unit (packet_in s.jobs j p).at) (λ e. rw e) (λ e. rw e)
 
 -- a channel carries what it carried, unless something starts or completes on it
-pub motion-kept : (s : State) → Inv s → (x : Call) → refusal s x ≡ Granted → (c : ℕ) → (x ≡ Start c → ⊥) → ((how : How) → x ≡ Complete c how → ⊥)
+pub motion-kept : (s : State) → Inv s → (x : Call) → refusal s x ≡ Ok tt → (c : ℕ) → (x ≡ Start c → ⊥) → ((how : How) → x ≡ Complete c how → ⊥)
     → motion_on (accept s x) c ≡ motion_on s c
 unfolding accept
 motion-kept s I (Take j asg) r c n o = refl
@@ -99,7 +98,7 @@ motion-kept s I (Do (Act'.Start d)) r c n o =
     let y = find-some (find (startable s d.0) s.queue) m.2 in
     let apart : eqb c d.0 ≡ false = ne_eqb c d.0 (λ q. n (ap Start (sym q))) in
     let k : motion_on (begun s d.0 y.0) c ≡ motion_on s c =
-    motion-move s d.0 (Busy (place_of y.0) (packet_of y.0)) c (rw I.channels m.0) ∙ rw apart in
+    motion-move s d.0 (Some (place_of y.0, packet_of y.0)) c (rw I.channels m.0) ∙ rw apart in
     rw y.1 k
 motion-kept s I (Do (Act'.Complete d how)) r c n o =
     let m = completes-on s d.0 how r in
@@ -107,7 +106,7 @@ motion-kept s I (Do (Act'.Complete d how)) r c n o =
     let apart : eqb c d.0 ≡ false = ne_eqb c d.0 (λ q. o how (ap (λ (e : ℕ). Complete e how) (sym q))) in
     let k : motion_on (return_if_done y.0 (finished s d.0 how y.0 y.1)) c ≡ motion_on s c =
     return-motion (finished s d.0 how y.0 y.1) y.0 c ∙ finished-motion s d.0 how y.0 y.1 c
-    ∙ motion-move s d.0 Idle c (rw I.channels m.0) ∙ rw apart in
+    ∙ motion-move s d.0 None c (rw I.channels m.0) ∙ rw apart in
     rw y.2 k
 motion-kept s I (Do (Act'.End j b)) r c n o = return-motion (closed s j b) j c
 motion-kept s I (Do (Act'.Return j d v)) r c n o = refl
@@ -120,7 +119,7 @@ abbrev its : ℕ → Holding
 its i = record { place = i; channel = 0; drum = false; unit = 0 }
 
 -- a packet that moves is not one that is free to be submitted
-pub another : (s : State) → Inv s → (c i n : ℕ) → motion_on s c ≡ Busy i n → (j p : ℕ) → Ready s j p → eqb i j && eqb n p ≡ false
+pub another : (s : State) → Inv s → (c i n : ℕ) → motion_on s c ≡ Some (i, n) → (j p : ℕ) → Ready s j p → eqb i j && eqb n p ≡ false
 another s I c i n is j p k =
     by_bool (eqb i j && eqb n p)
     (λ t. let x : i ≡ j = eqb-true i j (and_left (eqb i j) _ t) in
@@ -128,7 +127,7 @@ another s I c i n is j p k =
     absurd (ready-still s I j p c k (rw (x, y) at is)))
     (λ t. t)
 
-pub at-kept : (s : State) → Inv s → (x : Call) → refusal s x ≡ Granted → (c i n : ℕ) → motion_on s c ≡ Busy i n
+pub at-kept : (s : State) → Inv s → (x : Call) → refusal s x ≡ Ok tt → (c i n : ℕ) → motion_on s c ≡ Some (i, n)
     → (packet_in (accept s x).jobs i n).at ≡ (packet_in s.jobs i n).at
 unfolding accept
 at-kept s I (Take j asg) r c i n is =
@@ -153,7 +152,7 @@ at-kept s I (Do (Act'.Start d)) r c i n is =
 at-kept s I (Do (Act'.Complete d how)) r c i n is =
     let m = completes-on s d.0 how r in
     let y = busy-of (motion_on s d.0) m.1 in
-    let k : (packet_in (completed s d.0 how (Busy y.0 y.1)).jobs i n).at ≡ (packet_in s.jobs i n).at =
+    let k : (packet_in (completed s d.0 how (Some (y.0, y.1))).jobs i n).at ≡ (packet_in s.jobs i n).at =
     (calm-finished (its i) s I d.0 m.0 how y.0 y.1 y.2 n).2 in
     rw y.2 k
 at-kept s I (Do (Act'.End j b)) r c i n is =
@@ -172,17 +171,17 @@ at-kept s I (Do (Act'.Mark d v m on)) r c i n is = refl
 -- ---- a unit on which something moves has no interlock
 
 abbrev pub Opened : State → Type 0
-Opened s = (c j p : ℕ) → motion_on s c ≡ Busy j p → (unit_at s.units c (packet_in s.jobs j p).at).interlock ≡ false
+Opened s = (c j p : ℕ) → motion_on s c ≡ Some (j, p) → (unit_at s.units c (packet_in s.jobs j p).at).interlock ≡ false
 
-module _ (s : State) (I : Inv s) (x : Call) (r : refusal s x ≡ Granted) where
+module _ (s : State) (I : Inv s) (x : Call) (r : refusal s x ≡ Ok tt) where
   -- only a completion on its channel locks a unit
   unlocked : (c u : ℕ) → (unit_in s.units c u).interlock ≡ false → ((how : How) → x ≡ Complete c how → ⊥) → interlock_after s x c u ≡ false
   unfolding interlock_after
   unlocked = by_call x
     where
       by-motion : (d : ℕ) (how : How) (m : Motion) (c u : ℕ) → eqb c d ≡ false → is_trouble s.codes how && carried_at s d m c u ≡ false
-      by-motion d how Idle c u n = by_bool (is_trouble s.codes how) (λ t. rw t) (λ t. rw t)
-      by-motion d how (Busy j p) c u n = rw n (by_bool (is_trouble s.codes how) (λ t. rw t) (λ t. rw t))
+      by-motion d how None c u n = by_bool (is_trouble s.codes how) (λ t. rw t) (λ t. rw t)
+      by-motion d how (Some (j, p)) c u n = rw n (by_bool (is_trouble s.codes how) (λ t. rw t) (λ t. rw t))
 
       by_call : (x : Call) (c u : ℕ) → (unit_in s.units c u).interlock ≡ false → ((how : How) → x ≡ Complete c how → ⊥)
           → interlock_after s x c u ≡ false
@@ -201,13 +200,13 @@ module _ (s : State) (I : Inv s) (x : Call) (r : refusal s x ≡ Granted) where
   stays_open c (AtAddress y) e o = refl
 
   -- what moved before
-  moved_open : Opened s → (c j p : ℕ) → motion_on (accept s x) c ≡ Busy j p → (x ≡ Start c → ⊥) → ((how : How) → x ≡ Complete c how → ⊥)
+  moved_open : Opened s → (c j p : ℕ) → motion_on (accept s x) c ≡ Some (j, p) → (x ≡ Start c → ⊥) → ((how : How) → x ≡ Complete c how → ⊥)
       → (unit_at (accept s x).units c (packet_in (accept s x).jobs j p).at).interlock ≡ false
   moved_open O c j p e n o =
-      let is : motion_on s c ≡ Busy j p = sym (motion-kept s I x r c n o) ∙ e in
+      let is : motion_on s c ≡ Some (j, p) = sym (motion-kept s I x r c n o) ∙ e in
       rw (at-kept s I x r c j p is) (stays_open c (packet_in s.jobs j p).at (O c j p is) o)
 
-accept-open : (s : State) → Inv s → Opened s → (x : Call) → refusal s x ≡ Granted → Opened (accept s x)
+accept-open : (s : State) → Inv s → Opened s → (x : Call) → refusal s x ≡ Ok tt → Opened (accept s x)
 accept-open s I O (Take i asg) r c j p e =
     moved_open s I (Take i asg) r O c j p e (λ q. let y : ◌≡◌ {A = ℕ} 0 1 = cc in omega arith)
     (λ how q. let y : ◌≡◌ {A = ℕ} 0 1 = cc in omega arith)
@@ -226,12 +225,13 @@ accept-open s I O (Do (Act'.Start d)) r c j p e =
         let y = find-some (find (startable s d.0) s.queue) m.2 in
         let q = find-holds (EntryOk s) (startable s d.0) s.queue y.0 I.queued y.1 in
         let b = packet_in s.jobs (place_of y.0) (packet_of y.0) in
-        let e₁ : motion_on (started s d.0 (find (startable s d.0) s.queue)) c ≡ Busy j p = e in
-        let e₂ : motion_on (begun s d.0 y.0) d.0 ≡ Busy j p = rw (y.1, same) at e₁ in
-        let z : Busy (place_of y.0) (packet_of y.0) ≡ Busy j p =
-        sym (motion-move s d.0 (Busy (place_of y.0) (packet_of y.0)) d.0 (rw I.channels m.0) ∙ rw (eqb-self d.0)) ∙ e₂ in
-        let x₁ : j ≡ place_of y.0 = cc in
-        let x₂ : p ≡ packet_of y.0 = cc in
+        let e₁ : motion_on (started s d.0 (find (startable s d.0) s.queue)) c ≡ Some (j, p) = e in
+        let e₂ : motion_on (begun s d.0 y.0) d.0 ≡ Some (j, p) = rw (y.1, same) at e₁ in
+        let z =
+        same-motion (place_of y.0) (packet_of y.0) j p
+        (sym (motion-move s d.0 (Some (place_of y.0, packet_of y.0)) d.0 (rw I.channels m.0) ∙ rw (eqb-self d.0)) ∙ e₂) in
+        let x₁ : j ≡ place_of y.0 = sym z.0 in
+        let x₂ : p ≡ packet_of y.0 = sym z.1 in
         let w : (packet_in (begun s d.0 y.0).jobs (place_of y.0) (packet_of y.0)).at ≡ b.at =
         ap (λ (o : Packet). o.at) (start-at s I d.0 m.0 y.0 q.0 (startable-on s d.0 y.0 q.1)) in
         let k : (unit_at (begun s d.0 y.0).units d.0
@@ -249,10 +249,9 @@ accept-open s I O (Do (Act'.Complete d how)) r c j p e =
     idle same = unfold accept in
         let m = completes-on s d.0 how r in
         let y = busy-of (motion_on s d.0) m.1 in
-        let e₁ : motion_on (completed s d.0 how (motion_on s d.0)) c ≡ Busy j p = e in
-        let e₂ : motion_on (return_if_done y.0 (finished s d.0 how y.0 y.1)) d.0 ≡ Busy j p = rw (y.2, same) at e₁ in
-        let z : Idle ≡ Busy j p = sym (completed-idle s I d.0 m.0 how y.0 y.1) ∙ e₂ in
-        absurd (let y : ◌≡◌ {A = ℕ} 0 1 = cc in omega arith)
+        let e₁ : motion_on (completed s d.0 how (motion_on s d.0)) c ≡ Some (j, p) = e in
+        let e₂ : motion_on (return_if_done y.0 (finished s d.0 how y.0 y.1)) d.0 ≡ Some (j, p) = rw (y.2, same) at e₁ in
+        idle-moves j p (sym (completed-idle s I d.0 m.0 how y.0 y.1) ∙ e₂)
 accept-open s I O (Do (Act'.End i b)) r c j p e =
     moved_open s I (End i b) r O c j p e (λ q. let y : ◌≡◌ {A = ℕ} 0 1 = cc in omega arith) (λ how q. let y : ◌≡◌ {A = ℕ} 0 1 = cc in omega arith)
 accept-open s I O (Do (Act'.Return i d v)) r c j p e =

@@ -1,33 +1,23 @@
--- What the first i elements of a list show of all of them, for loops that look for one. Assumes nothing.
+-- Whether some element of a list passes, in the library's word, and what the first i elements show of all of them, for
+-- loops that look for one. Assumes nothing.
+use Rattle.std.specs.List.{list_any}
 use Prim.Native.Nat.{ℕ, zero, suc, ◌+◌, ◌≤◌, ◌<◌}
 use mathlib.Core.Path.{◌≡◌, refl}
-use mathlib.Core.Bool.{Bool, true, false, cond}
+use mathlib.Core.Bool.{Bool, cond}
 use mathlib.Core.List.{List, [], ◌∷◌, ◌++◌}
 use mathlib.Core.Option.{some, none}
 use native.Mathlib.Numerals.{add-one}
 use native.Mathlib.Omega.{arith}
 use lib.ListN.{length, get_or, take}
-use lib.Seq.{take-suc, take_all}
-use Rattle.numbers.proofs.Tests.{by_bool, never}
+use lib.Seq.{take-suc}
+use Rattle.numbers.proofs.Tests.{by_bool}
 use Rattle.numbers.specs.Elements.{any, find}
 
 module _ {A : Type 0} (f : A → Bool) where
-  -- none of the first i passes, nor does the next
-  pub any_step : (l : List A) (i : ℕ) (d : A) → i < length l → any f (take i l) ≡ false → f (get_or l i d) ≡ false → any f (take (i + 1) l) ≡ false
-  any_step l i d h e g = rw (add-one i, take-suc l i d h) (after (take i l) e)
-    where
-      after : (m : List A) → any f m ≡ false → any f (m ++ (get_or l i d ∷ [])) ≡ false
-      after [] q = rw g
-      after (x ∷ m) q = by_bool (f x) (λ t. never {b = true} refl (rw t at q)) (λ t. rw t (after m (rw t at q)))
-
-  -- one that passes is among all
-  pub any_here : (l : List A) (i : ℕ) (d : A) → i < length l → f (get_or l i d) ≡ true → any f l ≡ true
-  any_here [] i d h e = absurd (omega arith)
-  any_here (x ∷ l) zero d h e = rw e
-  any_here (x ∷ l) (suc i) d h e = by_bool (f x) (λ t. rw t) (λ t. rw t (any_here l i d (omega arith) e))
-
-  pub any-done : (l : List A) (i : ℕ) → length l ≤ i → any f (take i l) ≡ false → any f l ≡ false
-  any-done l i h e = rw (take_all i l h) at e
+  -- the library's word for it
+  pub any-list : (l : List A) → list_any f l ≡ any f l
+  any-list [] = refl
+  any-list (x ∷ l) = rw (any-list l)
 
   -- the next is the first that passes, or none is
   pub find-step : (l : List A) (i : ℕ) (d : A) → i < length l → find f (take i l) ≡ none

@@ -1,5 +1,6 @@
 -- THE LAWS OF HISTORIES: the one induction over the calls of a history, histories one after the other, and what is so
 -- of each accepted call. Assumes nothing.
+use Rattle.std.proofs.Common.{Err, None, Ok, Some}
 use Prim.Native.Nat.{ℕ}
 use mathlib.Core.Path.{◌≡◌, refl, sym, ap, subst, ◌∙◌}
 use mathlib.Core.Bool.{true, false}
@@ -14,10 +15,8 @@ use Rattle.packets.specs.Rules.{Answered, Call, Do, Take, accept, answer, begins
 use Rattle.packets.specs.State.{State, motion_on}
 use Rattle.packets.specs.declared.Act.TheVariants as Act'
 use Rattle.packets.specs.declared.Answer.{Answer}
-use Rattle.packets.specs.declared.Motion.{Motion}
-use Rattle.packets.specs.declared.Motion.TheVariants.{Busy, Idle}
-use Rattle.packets.specs.declared.Verdict.{Verdict}
-use Rattle.packets.specs.declared.Verdict.TheVariants.{Denied, Granted}
+use Rattle.packets.specs.State.{Motion}
+use Rattle.packets.specs.State.{Verdict}
 
 -- a call in a state, with its answer
 abbrev pub event : State → Call → Event
@@ -80,16 +79,16 @@ by-calls from P first more l s h = go [] from refl first l s h
         subst (λ (k : List Event). P k s) (append_assoc m (e ∷ []) l) (go (m ++ (e ∷ [])) t' d' p' l s h.1)
 
 -- a refused call changes nothing
-pub by-verdict : (P : State → Type 0) (s : State) → P s → (x : Call) → (refusal s x ≡ Granted → P (accept s x)) → P (step s x).state
+pub by-verdict : (P : State → Type 0) (s : State) → P s → (x : Call) → (refusal s x ≡ Ok tt → P (accept s x)) → P (step s x).state
 by-verdict P s p x f = unfold step in go (refusal s x) refl
   where
     go : (v : Verdict) → refusal s x ≡ v → P (decided s x v).state
-    go Granted e = f e
-    go (Denied n) e = p
+    go (Ok u) e = f e
+    go (Err n) e = p
 
 -- WHAT IS SO OF EVERY REACHED STATE: what is so where a history begins, and is kept by each accepted call
 pub by-history : (P : State → Type 0) → ((s : State) → Begins s → P s)
-    → ((l : List Event) (s : State) → Reached l s → P s → (x : Call) → refusal s x ≡ Granted → P (accept s x))
+    → ((l : List Event) (s : State) → Reached l s → P s → (x : Call) → refusal s x ≡ Ok tt → P (accept s x))
     → (l : List Event) (s : State) → Reached l s → P s
 by-history P first more l s r =
     by-calls r.from (λ (m : List Event) (t : State). P t) (first r.from r.begins)
@@ -103,17 +102,17 @@ of-fresh P f s b = subst P (sym b.is) (f b.channels b.codes b.units b.none)
 
 -- ---- accepted calls
 
-pub step-accepted : (s : State) (x : Call) → refusal s x ≡ Granted → step s x ≡ record { answer = answer s x; state = accept s x }
+pub step-accepted : (s : State) (x : Call) → refusal s x ≡ Ok tt → step s x ≡ record { answer = answer s x; state = accept s x }
 unfolding step
 step-accepted s x e = ap (decided s x) e
 
 -- only a granted call is answered so
-pub accepted-granted : (s : State) (x : Call) → is_accepted (step s x).answer ≡ true → refusal s x ≡ Granted
+pub accepted-granted : (s : State) (x : Call) → is_accepted (step s x).answer ≡ true → refusal s x ≡ Ok tt
 accepted-granted s x h = go (refusal s x) refl (unfold step in h)
   where
-    go : (v : Verdict) → refusal s x ≡ v → is_accepted (decided s x v).answer ≡ true → refusal s x ≡ Granted
-    go Granted e a = e
-    go (Denied n) e a = never {b = false} a refl
+    go : (v : Verdict) → refusal s x ≡ v → is_accepted (decided s x v).answer ≡ true → refusal s x ≡ Ok tt
+    go (Ok u) e a = e
+    go (Err n) e a = never {b = false} a refl
 
 answers-accepted : (s : State) (x : Call) → is_accepted (answer s x) ≡ true
 unfolding answer
@@ -127,20 +126,20 @@ answers-accepted s (Do (Act'.Start c)) = go (find (startable s c.0) s.queue)
 answers-accepted s (Do (Act'.Complete c how)) = go (motion_on s c.0)
   where
     go : (m : Motion) → is_accepted (completes s c.0 how m) ≡ true
-    go Idle = refl
-    go (Busy j p) = refl
+    go None = refl
+    go (Some (j, p)) = refl
 answers-accepted s (Do (Act'.End j e)) = refl
 answers-accepted s (Do (Act'.Return j c u)) = refl
 answers-accepted s (Do (Act'.Mark c u m on)) = refl
 
-pub granted-accepted : (s : State) (x : Call) → refusal s x ≡ Granted → is_accepted (step s x).answer ≡ true
+pub granted-accepted : (s : State) (x : Call) → refusal s x ≡ Ok tt → is_accepted (step s x).answer ≡ true
 granted-accepted s x e = ap (λ (a : Answered). is_accepted a.answer) (step-accepted s x e) ∙ answers-accepted s x
 
 -- ---- along a history
 
 -- what is so of each accepted call in a reached state is so along every history from a reached state
 pub along : (P : State → Call → State → Type 0)
-    → ((l : List Event) (s : State) (x : Call) → Reached l s → refusal s x ≡ Granted → P s x (accept s x))
+    → ((l : List Event) (s : State) (x : Call) → Reached l s → refusal s x ≡ Ok tt → P s x (accept s x))
     → (l : List Event) (s : State) → Reached l s → (m : List Event) (t : State) → Leads s m t → Along P s m
 along P f l s r [] t h = tt
 along P f l s r (e ∷ m) t h = (now, along P f (l ++ (event s x ∷ [])) (step s x).state (reached-more l s r x) m t h.1)
@@ -150,7 +149,7 @@ along P f l s r (e ∷ m) t h = (now, along P f (l ++ (event s x ∷ [])) (step 
 
     now : is_accepted e.answer ≡ true → P s x (step s x).state
     now a =
-        let g : refusal s x ≡ Granted = accepted-granted s x (sym (ap is_accepted h.0) ∙ a) in
+        let g : refusal s x ≡ Ok tt = accepted-granted s x (sym (ap is_accepted h.0) ∙ a) in
         subst (P s x) (sym (ap (λ (y : Answered). y.state) (step-accepted s x g))) (f l s x r g)
 
 pub along-append : (P : State → Call → State → Type 0) (s : State) (l : List Event) (t : State) (m : List Event) → Leads s l t

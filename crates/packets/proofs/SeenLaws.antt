@@ -1,5 +1,6 @@
 -- Where the packets of a job were last submitted, read from calls and answers alone, is what the cell holds.
 -- Assumes nothing.
+use Rattle.std.proofs.Common.{Ok, Some}
 use Prim.Native.Nat.{ℕ, ◌<◌}
 use mathlib.Core.Path.{◌≡◌, refl, sym, ap, ◌∙◌}
 use mathlib.Core.Bool.{Bool, true, false, not, ◌&&◌}
@@ -32,12 +33,10 @@ use Rattle.packets.proofs.Handing.{returns-inside, unit_site}
 use Rattle.packets.specs.declared.Answer.TheVariants.{Refused}
 use Rattle.packets.specs.declared.How.{How}
 use Rattle.packets.specs.declared.JobState.TheVariants.{Empty}
-use Rattle.packets.specs.declared.Motion.TheVariants.{Busy}
 use Rattle.packets.specs.declared.Packet.{Packet}
 use Rattle.packets.specs.declared.Spot.{Spot}
 use Rattle.packets.specs.declared.Status.{Status}
 use Rattle.packets.specs.declared.Status.TheVariants.{Blank, Ended, InProgress, Listed}
-use Rattle.packets.specs.declared.Verdict.TheVariants.{Granted}
 
 -- ---- where the job's packets were last submitted
 
@@ -157,7 +156,7 @@ SeenOk h s t = (n : ℕ) → SeenAt h s (t n) n
 pub seen-calm : (h : Holding) (s s' : State) (b : Bool) (n : ℕ) → Calm h s s' n → SeenAt h s b n → SeenAt h s' b n
 seen-calm h s s' b n c k = (λ e. c.0 ∙ k.0 e, λ e. k.1 (c.1 e) ∙ sym c.0)
 
-pub calm-finished : (h : Holding) (s : State) → Inv s → (c : ℕ) → c < 16 → (how : How) (j p : ℕ) → motion_on s c ≡ Busy j p → (n : ℕ)
+pub calm-finished : (h : Holding) (s : State) → Inv s → (c : ℕ) → c < 16 → (how : How) (j p : ℕ) → motion_on s c ≡ Some (j, p) → (n : ℕ)
     → Calm h s (return_if_done j (finished s c how j p)) n
 calm-finished h s I c small how j p is n =
     let b = motion-busy (packet_in s.jobs j p).status (I.motion c j p is).going in
@@ -170,7 +169,7 @@ calm-finished h s I c small how j p is n =
     (λ e. rw e k))
     (calm_return h (finished s c how j p) j n)
 
-pub accept-seen : (h : Holding) (s : State) → Inv s → Holds s h → (t : Seen) → SeenOk h s t → (x : Call) → refusal s x ≡ Granted
+pub accept-seen : (h : Holding) (s : State) → Inv s → Holds s h → (t : Seen) → SeenOk h s t → (x : Call) → refusal s x ≡ Ok tt
     → SeenOk h (accept s x) (noted h t x (answer s x))
 unfolding accept noted answer
 accept-seen h s I H t k (Take j asg) r =

@@ -1,4 +1,5 @@
 -- A cell, seen from a holding, and a lone unit: when they agree, and that each store of the rules keeps them so.
+use Rattle.std.proofs.Common.{None, Some}
 use Prim.Native.Nat.{ℕ, ◌<◌}
 use mathlib.Core.Path.{◌≡◌, refl, sym, ap, ◌∙◌}
 use mathlib.Core.Bool.{Bool, true, false, not, cond, ◌&&◌}
@@ -21,8 +22,7 @@ use Rattle.packets.specs.State.{place_of, put, relist, restatus, restatus_all, s
 use Rattle.packets.specs.State.{state_in}
 use Rattle.packets.proofs.Store.{packet-put, packet-restatus, size_in, state-put, state-restatus}
 use Rattle.packets.specs.declared.Job.{Job}
-use Rattle.packets.specs.declared.Motion.{Motion}
-use Rattle.packets.specs.declared.Motion.TheVariants.{Busy, Idle}
+use Rattle.packets.specs.State.{Motion}
 use Rattle.packets.specs.declared.Packet.{Packet}
 use Rattle.packets.specs.declared.Status.{Status}
 use Rattle.packets.specs.declared.Status.TheVariants.{Blank, Ended, InProgress, Listed, Stopping}
@@ -47,8 +47,8 @@ abbrev pub on : Holding → List Job → ℕ → Bool
 on h jobs e = eqb (place_of e) h.place && there h (packet_in jobs h.place (packet_of e))
 
 abbrev pub moving_there : Holding → List Job → Motion → Option ℕ
-moving_there h jobs Idle = none
-moving_there h jobs (Busy j p) = cond (eqb j h.place && there h (packet_in jobs h.place p)) (some p) none
+moving_there h jobs None = none
+moving_there h jobs (Some (j, p)) = cond (eqb j h.place && there h (packet_in jobs h.place p)) (some p) none
 
 abbrev pub lock_there : Holding → List (List UnitState) → Bool
 lock_there h units = cond h.drum false (unit_in units h.channel h.unit).interlock
@@ -135,8 +135,8 @@ module _ (h : Holding) (s : State) (I : Inv s) (l : Lone) (S : Sim h s l) where
     }
 
     same-moving : (m : Motion) → motion_on s h.channel ≡ m → moving_there h s.jobs m ≡ moving_there h jobs m
-    same-moving Idle e = refl
-    same-moving (Busy j p) e =
+    same-moving None e = refl
+    same-moving (Some (j, p)) e =
         by_bool (eqb j h.place)
         (λ t. let q : j ≡ h.place = eqb-true j h.place t in
         rw (t, kept p (motion-busy (packet_in s.jobs h.place p).status (rw q at (I.motion h.channel j p e).going))))

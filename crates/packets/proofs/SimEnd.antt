@@ -1,4 +1,5 @@
 -- A completion, a job's end, a taking and a mark: the holding and its lone unit stay alike. Assumes nothing.
+use Rattle.std.proofs.Common.{None, Some}
 use Prim.Native.Nat.{ℕ, ◌<◌}
 use mathlib.Core.Path.{◌≡◌, refl, sym, ap, ◌∙◌, subst}
 use mathlib.Core.Bool.{Bool, true, false, not, cond, ◌&&◌}
@@ -38,7 +39,6 @@ use Rattle.packets.specs.declared.Assignment.{Assignment}
 use Rattle.packets.specs.declared.How.{How}
 use Rattle.packets.specs.declared.How.TheVariants.{Cut, Failed, Full}
 use Rattle.packets.specs.declared.JobState.{JobState}
-use Rattle.packets.specs.declared.Motion.TheVariants.{Busy, Idle}
 use Rattle.packets.specs.declared.Site.{Site}
 use Rattle.packets.specs.declared.Status.{Status}
 use Rattle.packets.specs.declared.Status.TheVariants.{Blank, Ended, InProgress, Listed, Stopping}
@@ -65,12 +65,12 @@ may-end x (Failed k) e =
 -- ---- a completion
 
 module _ (h : Holding) (s : State) (I : Inv s) (H : Holds s h) (l : Lone) (S : Sim h s l) (c : ℕ) (small : c < 16)
-    (j p : ℕ) (is : motion_on s c ≡ Busy j p) where
+    (j p : ℕ) (is : motion_on s c ≡ Some (j, p)) where
   its-channel : (packet_in s.jobs j p).channel.0 ≡ c
   its-channel = (I.motion c j p is).channel
 
   -- from the packet that has ended to all that returns then
-  gives_back : (how : How) (l' : Lone) → Sim h (finished s c how j p) l' → Sim h (completed s c how (Busy j p)) l'
+  gives_back : (how : How) (l' : Lone) → Sim h (finished s c how j p) l' → Sim h (completed s c how (Some (j, p))) l'
   gives_back how l' S' =
       let I₁ = finished-inv s I c small j p is how in
       sim-back h (return_if_done j (finished s c how j p)) (return-inv (finished s c how j p) I₁ j) l'
@@ -83,7 +83,7 @@ module _ (h : Holding) (s : State) (I : Inv s) (H : Holds s h) (l : Lone) (S : S
     moving-is : l.moving ≡ some p
     moving-is = S.moving ∙ ap (moving_there h s.jobs) now ∙ rw (at_j, eqb-self j, t)
       where
-        now : motion_on s h.channel ≡ Busy j p
+        now : motion_on s h.channel ≡ Some (j, p)
         now = rw channel-at is
 
     its-like : Like (l.packets p) (packet_in s.jobs j p)
@@ -91,7 +91,7 @@ module _ (h : Holding) (s : State) (I : Inv s) (H : Holds s h) (l : Lone) (S : S
 
     sim-over : (k : ℕ) → Sim h (over s c j p k) (ends l p k)
     sim-over k =
-        sim-store h (move s c Idle) (idle-inv s I c small) (carries l none) (sim-move h s I l S c Idle none small channel-at refl) j p
+        sim-store h (move s c None) (idle-inv s I c small) (carries l none) (sim-move h s I l S c None none small channel-at refl) j p
         (with_status (packet_in s.jobs j p) (Ended k)) (over-fits s I c small j p is) (λ b. refl) at_j t (become (l.packets p) (Ended k))
         (like-status its-like (Ended k) (Ended k) refl (λ b. never {b = false} b refl))
 
@@ -126,9 +126,9 @@ module _ (h : Holding) (s : State) (I : Inv s) (H : Holds s h) (l : Lone) (S : S
         ap (may_complete l how) moving-is ∙ ap (λ (x : Status). may_end x how) its-like.status
         ∙ may-end (packet_in s.jobs j p).status how right
 
-    pub sim-complete : (how : How) → Sim h (completed s c how (Busy j p)) (completes_as s.codes h.drum l how l.moving)
+    pub sim-complete : (how : How) → Sim h (completed s c how (Some (j, p))) (completes_as s.codes h.drum l how l.moving)
     sim-complete how =
-        subst (λ (x : Option ℕ). Sim h (completed s c how (Busy j p)) (completes_as s.codes h.drum l how x)) (sym moving-is)
+        subst (λ (x : Option ℕ). Sim h (completed s c how (Some (j, p))) (completes_as s.codes h.drum l how x)) (sym moving-is)
         (gives_back how (completes_as s.codes h.drum l how (some p)) (sim-finished how))
 
   module _ (away : eqb h.place j && there h (packet_in s.jobs j p) ≡ false) where
@@ -137,7 +137,7 @@ module _ (h : Holding) (s : State) (I : Inv s) (H : Holds s h) (l : Lone) (S : S
 
     sim-over-away : (k : ℕ) → Sim h (over s c j p k) l
     sim-over-away k =
-        sim-store-away h (move s c Idle) (idle-inv s I c small) l (sim-move-away h s I l S c Idle small (λ x. sym gone)) j p
+        sim-store-away h (move s c None) (idle-inv s I c small) l (sim-move-away h s I l S c None small (λ x. sym gone)) j p
         (with_status (packet_in s.jobs j p) (Ended k)) (over-fits s I c small j p is) (λ b. refl) away
       where
         gone : moving_there h s.jobs (motion_on s c) ≡ none
@@ -184,7 +184,7 @@ module _ (h : Holding) (s : State) (I : Inv s) (H : Holds s h) (l : Lone) (S : S
             never {b = there h (packet_in s.jobs j p)} (rw its-channel y') (none_here e))
             (λ z. z)
 
-    pub sim-complete-away : (how : How) → Sim h (completed s c how (Busy j p)) l
+    pub sim-complete-away : (how : How) → Sim h (completed s c how (Some (j, p))) l
     sim-complete-away how =
         gives_back how l
         (by_bool (is_trouble s.codes how && is_unit (packet_in s.jobs j p).at)

@@ -1,5 +1,6 @@
 -- The stores of the rules that leave the packets alone (units, places, the request list, what moves) keep a cell
 -- and a lone unit alike. Assumes nothing.
+use Rattle.std.proofs.Common.{None, Some}
 use Prim.Native.Nat.{ℕ, ◌<◌}
 use mathlib.Core.Path.{◌≡◌, refl, sym, ap, ◌∙◌}
 use mathlib.Core.Bool.{Bool, true, false, not, cond}
@@ -22,8 +23,7 @@ use Rattle.packets.specs.State.{State, enqueue, entry_of, held_by, is_running, m
 use Rattle.packets.proofs.Sites.{lock-holder}
 use Rattle.packets.specs.declared.Site.{Site}
 use Rattle.packets.specs.declared.Job.{Job}
-use Rattle.packets.specs.declared.Motion.{Motion}
-use Rattle.packets.specs.declared.Motion.TheVariants.{Busy, Idle}
+use Rattle.packets.specs.State.{Motion}
 
 map-append : (f : ℕ → ℕ) (l m : List ℕ) → map f (l ++ m) ≡ map f l ++ map f m
 map-append f [] m = refl
@@ -95,8 +95,8 @@ module _ (h : Holding) (s : State) (I : Inv s) (l : Lone) (S : Sim h s l) where
       }
     where
       again : (m : Motion) → moving_there h s.jobs m ≡ moving_there h jobs m
-      again Idle = refl
-      again (Busy j p) = rw same
+      again None = refl
+      again (Some (j, p)) = rw same
 
   pub sim-same : (units : List (List UnitState)) (jobs : List Job) → Stays h units s.units → lock_there h units ≡ lock_there h s.units
       → ((n : ℕ) → packet_in jobs h.place n ≡ packet_in s.jobs h.place n)

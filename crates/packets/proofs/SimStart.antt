@@ -1,4 +1,5 @@
 -- A start and a return: the holding and its lone unit stay alike, and make the same start. Assumes nothing.
+use Rattle.std.proofs.Common.{Some}
 use Prim.Native.Nat.{ℕ, ◌<◌}
 use mathlib.Core.Path.{◌≡◌, refl, sym, ap, ◌∙◌, subst}
 use mathlib.Core.Bool.{true, false, not, ◌&&◌}
@@ -25,7 +26,6 @@ use Rattle.packets.proofs.Steps.{closing-not-running, start-at, start_fits, star
 use Rattle.packets.proofs.Store.{alive-in, packet-state, state-state, unit-release}
 use Rattle.packets.specs.declared.Job.{Job}
 use Rattle.packets.specs.declared.JobState.TheVariants.{Empty}
-use Rattle.packets.specs.declared.Motion.TheVariants.{Busy}
 use Rattle.packets.specs.declared.Status.TheVariants.{InProgress}
 
 -- ---- a return
@@ -126,12 +126,12 @@ module _ (h : Holding) (s : State) (I : Inv s) (H : Holds s h) (l : Lone) (S : S
         sim-store h s I l S (place_of e) (packet_of e) q (start_fits s I c small e entry-ok on-channel) (λ b. refl) (sym at-e) (rw at-e t) r₁
         (rw at-e (like-status (S.table (packet_of e) t) InProgress InProgress refl (λ b. was-busy))) in
         subst (λ (x : List ℕ). Sim h (begun s c e) (sets_off l x)) (sym order_is)
-        (sim-move h s₁ (start-store s I c small e entry-ok on-channel) l₁ S₁ c (Busy (place_of e) (packet_of e)) (some (packet_of e))
+        (sim-move h s₁ (start-store s I c small e entry-ok on-channel) l₁ S₁ c (Some (place_of e, packet_of e)) (some (packet_of e))
         small channel-is now-moving)
       where
         now-moving : moving_there h
             (put s.jobs (place_of e) (packet_of e) (with_status (packet_in s.jobs (place_of e) (packet_of e)) InProgress))
-            (Busy (place_of e) (packet_of e))
+            (Some (place_of e, packet_of e))
             ≡ some (packet_of e)
         now-moving =
             let t' : there h (packet_in s.jobs (place_of e) (packet_of e)) ≡ true = rw at-e t in
@@ -144,13 +144,13 @@ module _ (h : Holding) (s : State) (I : Inv s) (H : Holds s h) (l : Lone) (S : S
         let s₁ = store s (place_of e) (packet_of e) q in
         let S₁ : Sim h s₁ l =
         sim-store-away h s I l S (place_of e) (packet_of e) q (start_fits s I c small e entry-ok on-channel) (λ b. refl) away in
-        sim-move-away h s₁ (start-store s I c small e entry-ok on-channel) l S₁ c (Busy (place_of e) (packet_of e)) small
+        sim-move-away h s₁ (start-store s I c small e entry-ok on-channel) l S₁ c (Some (place_of e, packet_of e)) small
         (λ x. not-moving ∙ sym (ap (moving_there h after) (idle-is s I c idle)))
       where
         after : List Job
         after = put s.jobs (place_of e) (packet_of e) (with_status (packet_in s.jobs (place_of e) (packet_of e)) InProgress)
 
-        not-moving : moving_there h after (Busy (place_of e) (packet_of e)) ≡ none
+        not-moving : moving_there h after (Some (place_of e, packet_of e)) ≡ none
         not-moving =
             by_bool (eqb (place_of e) h.place)
             (λ x. let y : h.place ≡ place_of e = sym (eqb-true (place_of e) h.place x) in

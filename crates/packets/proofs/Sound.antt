@@ -1,5 +1,6 @@
 -- Every packet in progress or stopping moves on its channel, and every listed packet is in the list: each store of
 -- the rules keeps it, one packet apart while a call is at work on it. Assumes nothing.
+use Rattle.std.proofs.Common.{Some}
 use Prim.Native.Nat.{ℕ, ◌≤◌, ◌<◌}
 use mathlib.Core.Path.{◌≡◌, refl, ◌∙◌, subst}
 use mathlib.Core.Bool.{Bool, true, false, cond, ◌||◌}
@@ -23,8 +24,7 @@ use Rattle.packets.proofs.Store.{size-fresh, size-put, size-restatus, size-state
 use Rattle.packets.specs.declared.Assignment.{Assignment}
 use Rattle.packets.specs.declared.Job.{Job}
 use Rattle.packets.specs.declared.JobState.{JobState}
-use Rattle.packets.specs.declared.Motion.{Motion}
-use Rattle.packets.specs.declared.Motion.TheVariants.{Busy}
+use Rattle.packets.specs.State.{Motion}
 use Rattle.packets.specs.declared.Packet.{Packet}
 use Rattle.packets.specs.declared.Status.{Status}
 use Rattle.packets.specs.declared.Status.TheVariants.{Blank}
@@ -34,7 +34,7 @@ no_packet i n = false
 
 pub record Sound (s : State) (but : ℕ → ℕ → Bool) : Type 0 where
   pub mover : (i n : ℕ) → but i n ≡ false → in_motion (packet_in s.jobs i n).status ≡ true
-      → motion_on s (packet_in s.jobs i n).channel.0 ≡ Busy i n
+      → motion_on s (packet_in s.jobs i n).channel.0 ≡ Some (i, n)
   pub member : (i n : ℕ) → but i n ≡ false → is_listed (packet_in s.jobs i n).status ≡ true → any (eqb (entry_of i n)) s.queue ≡ true
   pub sixteen : (i : ℕ) → size_in s.jobs i ≤ 16
 
@@ -82,14 +82,14 @@ module _ (s : State) (j p : ℕ) (S : Sound s (is_packet j p)) where
           omega (arith, size-put s.jobs j p q i, S.sixteen i)
 
   -- what moves on a channel
-  pub move-sound : (c : ℕ) (m : Motion) → c < length s.moving → ((i n : ℕ) → is_packet j p i n ≡ false → motion_on s c ≡ Busy i n → ⊥)
+  pub move-sound : (c : ℕ) (m : Motion) → c < length s.moving → ((i n : ℕ) → is_packet j p i n ≡ false → motion_on s c ≡ Some (i, n) → ⊥)
       → Sound (move s c m) (is_packet j p)
   move-sound c m h old =
       record {
         mover = λ i n b g. motion-move s c m (packet_in s.jobs i n).channel.0 h
             ∙ by_bool (eqb (packet_in s.jobs i n).channel.0 c)
             (λ t. absurd (old i n b
-            (subst (λ (d : ℕ). motion_on s d ≡ Busy i n) (eqb-true (packet_in s.jobs i n).channel.0 c t) (S.mover i n b g))))
+            (subst (λ (d : ℕ). motion_on s d ≡ Some (i, n)) (eqb-true (packet_in s.jobs i n).channel.0 c t) (S.mover i n b g))))
             (λ t. rw t (S.mover i n b g));
         member = S.member;
         sixteen = S.sixteen;
@@ -105,7 +105,7 @@ module _ (s : State) (j p : ℕ) (S : Sound s (is_packet j p)) where
       }
 
   -- the packet itself, when the call has done with it
-  pub sound-whole : (in_motion (packet_in s.jobs j p).status ≡ true → motion_on s (packet_in s.jobs j p).channel.0 ≡ Busy j p)
+  pub sound-whole : (in_motion (packet_in s.jobs j p).status ≡ true → motion_on s (packet_in s.jobs j p).channel.0 ≡ Some (j, p))
       → (is_listed (packet_in s.jobs j p).status ≡ true → any (eqb (entry_of j p)) s.queue ≡ true) → Sound s no_packet
   sound-whole moves lists =
       record {

@@ -1,5 +1,6 @@
 -- Every call keeps each moving packet on its channel and each listed packet in the list, and the fresh cell has
 -- neither. Assumes nothing.
+use Rattle.std.proofs.Common.{None, Ok, Some}
 use Prim.Native.Nat.{ℕ, zero, suc, ◌≤◌, ◌<◌}
 use mathlib.Core.Path.{◌≡◌, refl, sym, ap, ◌∙◌}
 use mathlib.Core.Bool.{true, false, ◌&&◌}
@@ -19,7 +20,7 @@ use Rattle.packets.specs.State.{is_unit, lock, motion_on, move, no_job, packet_i
 use Rattle.packets.specs.State.{set_lock, state_in, store, sweep, with_status}
 use Rattle.packets.proofs.InvUnits.{lock-inv}
 use Rattle.packets.proofs.InvStores.{New, enlisted-is, idle-is, motion-move, sweep-inv}
-use Rattle.packets.proofs.Laws.{eqb-self, find-holds, get_d-replicate-const}
+use Rattle.packets.proofs.Laws.{idle-moves, same-motion, eqb-self, find-holds, get_d-replicate-const}
 use Rattle.numbers.specs.Elements.{any, find}
 use Rattle.packets.specs.Rules.{
   Call,
@@ -62,13 +63,11 @@ use Rattle.packets.proofs.Handing.{returns-inside, unit_site}
 use Rattle.packets.specs.declared.How.{How}
 use Rattle.packets.specs.declared.Job.{Job}
 use Rattle.packets.specs.declared.JobState.TheVariants.{Empty}
-use Rattle.packets.specs.declared.Motion.TheVariants.{Busy, Idle}
 use Rattle.packets.specs.declared.Packet.{Packet}
 use Rattle.packets.specs.declared.Site.{Site}
 use Rattle.packets.specs.declared.Spot.{Spot}
 use Rattle.packets.specs.declared.Status.{Status}
 use Rattle.packets.specs.declared.Status.TheVariants.{Blank, Ended, InProgress, Listed, Stopping}
-use Rattle.packets.specs.declared.Verdict.TheVariants.{Granted}
 
 failed-moved : (x : Status) → in_motion (failed x) ≡ true → in_motion x ≡ true
 failed-moved Blank e = e
@@ -157,31 +156,29 @@ module _ (s : State) (I : Inv s) (S : Sound s no_packet) (c : ℕ) (small : c < 
       let q = with_status (packet_in s.jobs j p) InProgress in
       let s₁ = store s j p q in
       let at : packet_in s₁.jobs j p ≡ q = start-at s I c small e k on in
-      sound-whole (move s₁ c (Busy j p)) j p
-      (move-sound s₁ j p (store-sound s j p (sound-but (is_packet j p) S) q (start_fits s I c small e k on)) c (Busy j p) (rw I.channels small)
-      (λ i n b m. let z : Busy i n ≡ Idle = sym m ∙ idle-is s I c idle in let y : ◌≡◌ {A = ℕ} 0 1 = cc in omega arith))
-      (λ m. rw (at, on) (motion-move s₁ c (Busy j p) c (rw I.channels small) ∙ rw (eqb-self c)))
+      sound-whole (move s₁ c (Some (j, p))) j p
+      (move-sound s₁ j p (store-sound s j p (sound-but (is_packet j p) S) q (start_fits s I c small e k on)) c (Some (j, p)) (rw I.channels small)
+      (λ i n b m. idle-moves i n (sym (idle-is s I c idle) ∙ m)))
+      (λ m. rw (at, on) (motion-move s₁ c (Some (j, p)) c (rw I.channels small) ∙ rw (eqb-self c)))
       (λ m. never {b = false} (rw at at m) refl)
 
 -- ---- a completion
 
-module _ (s : State) (I : Inv s) (S : Sound s no_packet) (c : ℕ) (small : c < 16) (j p : ℕ) (is : motion_on s c ≡ Busy j p) where
+module _ (s : State) (I : Inv s) (S : Sound s no_packet) (c : ℕ) (small : c < 16) (j p : ℕ) (is : motion_on s c ≡ Some (j, p)) where
   over-sound : (k : ℕ) → Sound (over s c j p k) no_packet
   over-sound k =
       let q = with_status (packet_in s.jobs j p) (Ended k) in
-      let s₁ = move s c Idle in
+      let s₁ = move s c None in
       let at : packet_in (over s c j p k).jobs j p ≡ q =
       packet-put s.jobs j p q j p (over-fits s I c small j p is) ∙ rw (eqb-self j, eqb-self p) in
       sound-whole (store s₁ j p q) j p
-      (store-sound s₁ j p (move-sound s j p (sound-but (is_packet j p) S) c Idle (rw I.channels small) other) q (over-fits s I c small j p is))
+      (store-sound s₁ j p (move-sound s j p (sound-but (is_packet j p) S) c None (rw I.channels small) other) q (over-fits s I c small j p is))
       (λ m. never {b = false} (rw at at m) refl) (λ m. never {b = false} (rw at at m) refl)
     where
-      other : (i n : ℕ) → is_packet j p i n ≡ false → motion_on s c ≡ Busy i n → ⊥
+      other : (i n : ℕ) → is_packet j p i n ≡ false → motion_on s c ≡ Some (i, n) → ⊥
       other i n b m =
-          let z : Busy j p ≡ Busy i n = sym is ∙ m in
-          let x : i ≡ j = cc in
-          let y : n ≡ p = cc in
-          never {b = is_packet j p i n} (rw (x, y, eqb-self j, eqb-self p)) b
+          let z = same-motion i n j p (sym m ∙ is) in
+          never {b = is_packet j p i n} (rw (z.0, z.1, eqb-self j, eqb-self p)) b
 
   finished-sound : (how : How) → Sound (finished s c how j p) no_packet
   finished-sound how =
@@ -198,7 +195,7 @@ return-sound s S j = by_bool (is_done s j) (λ e. rw e (state-sound s S j Empty 
 
 -- ---- every call
 
-accept-sound : (s : State) → Inv s → Sound s no_packet → (x : Call) → refusal s x ≡ Granted → Sound (accept s x) no_packet
+accept-sound : (s : State) → Inv s → Sound s no_packet → (x : Call) → refusal s x ≡ Ok tt → Sound (accept s x) no_packet
 unfolding accept
 accept-sound s I S (Take j asg) r = assigned-sound s S j asg (rw I.places (assigns-to s j asg r).0)
 accept-sound s I S (Do (Act'.Submit j p f c w)) r = submit-sound s I S j p f c.0 w (submits s j p f c.0 w r)

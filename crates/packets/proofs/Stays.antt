@@ -1,4 +1,5 @@
 -- WHAT IS CONFIGURED STAYS: no call changes what a channel has or which codes set interlock. Assumes nothing.
+use Rattle.std.proofs.Common.{Err, None, Ok, Some}
 use Prim.Native.Nat.{ℕ}
 use mathlib.Core.Path.{◌≡◌, refl, ◌∙◌}
 use mathlib.Core.Bool.{◌&&◌}
@@ -33,11 +34,9 @@ use Rattle.packets.specs.Rules.{
 use Rattle.packets.specs.declared.Act.TheVariants as Act'
 use Rattle.packets.specs.State.{State, is_unit, motion_on, packet_in}
 use Rattle.packets.specs.declared.How.{How}
-use Rattle.packets.specs.declared.Motion.{Motion}
-use Rattle.packets.specs.declared.Motion.TheVariants.{Busy, Idle}
+use Rattle.packets.specs.State.{Motion}
 use Rattle.packets.specs.declared.Spot.{Spot}
-use Rattle.packets.specs.declared.Verdict.{Verdict}
-use Rattle.packets.specs.declared.Verdict.TheVariants.{Denied, Granted}
+use Rattle.packets.specs.State.{Verdict}
 
 -- what each channel has, and the codes
 pub record Configured : Type 0 where
@@ -56,8 +55,8 @@ module _ (s : State) where
   returns-has j t h = by_bool (is_done t j) (λ e. rw e h) (λ e. rw e h)
 
   completed-has : (c : ℕ) (how : How) (m : Motion) → has (completed s c how m) ≡ has s
-  completed-has c how Idle = refl
-  completed-has c how (Busy j p) =
+  completed-has c how None = refl
+  completed-has c how (Some (j, p)) =
       returns-has j (finished s c how j p)
       (by_bool (is_trouble s.codes how && is_unit (packet_in s.jobs j p).at) (λ e. rw e refl) (λ e. rw e refl))
 
@@ -81,8 +80,8 @@ module _ (s : State) where
   step-has x = go (refusal s x)
     where
       go : (v : Verdict) → has (decided s x v).state ≡ has s
-      go Granted = accept-has x
-      go (Denied n) = refl
+      go (Ok u) = accept-has x
+      go (Err n) = refl
 
 -- calls keep it, one after the other
 pub leads-has : (s : State) (l : List Event) (t : State) → Leads s l t → has t ≡ has s

@@ -1,4 +1,5 @@
 -- A submission keeps the invariant: the packet that is free to be submitted, stored, swept and listed. Assumes nothing.
+use Rattle.std.proofs.Common.{Some}
 use Prim.Native.Nat.{ℕ, ◌<◌}
 use mathlib.Core.Path.{◌≡◌, refl}
 use mathlib.Core.Bool.{Bool, true, false}
@@ -17,7 +18,6 @@ use Rattle.packets.proofs.Laws.{all-imp, all_keep, eqb-self}
 use Rattle.packets.specs.Rules.{aimed, cut, failed, is_at, locked, packet, site_of, submitted}
 use Rattle.packets.proofs.Store.{alive-in, packet-put, packet-restatus, size_in, state-put, state-restatus}
 use Rattle.packets.proofs.Told.{Submits, cut-going, cut-idle, failed-going, failed-idle, owns-unit}
-use Rattle.packets.specs.declared.Motion.TheVariants.{Busy}
 use Rattle.packets.specs.declared.Packet.{Packet}
 use Rattle.packets.specs.declared.Spot.{Spot}
 use Rattle.packets.specs.declared.Status.{Status}
@@ -35,7 +35,7 @@ ready-fits s I j p r = rw (I.sizes j (running-alive (state_in s.jobs j) r.runnin
 pub ready-inside : (s : State) (j p : ℕ) → Ready s j p → j < length s.jobs
 ready-inside s j p r = alive-in s.jobs j (running-alive (state_in s.jobs j) r.running)
 
-pub ready-still : (s : State) → Inv s → (j p c : ℕ) → Ready s j p → motion_on s c ≡ Busy j p → ⊥
+pub ready-still : (s : State) → Inv s → (j p c : ℕ) → Ready s j p → motion_on s c ≡ Some (j, p) → ⊥
 ready-still s I j p c r e =
     never {b = is_busy (packet_in s.jobs j p).status} (motion-busy (packet_in s.jobs j p).status (I.motion c j p e).going) r.idle
 

@@ -1,10 +1,10 @@
 -- Every accepted call keeps the invariant, and the fresh cell has it. Assumes nothing.
+use Rattle.std.proofs.Common.{Err, None, Ok, Some}
 use Prim.Native.Nat.{ℕ, ◌<◌}
 use mathlib.Core.Path.{◌≡◌, refl, sym, ap, ◌∙◌}
 use mathlib.Core.Bool.{Bool, true, false, not, cond, ◌&&◌}
 use mathlib.Core.List.{List}
 use mathlib.Core.Option.{Option, none, some}
-use native.Mathlib.Omega.{arith}
 use lib.ListN.{length, replicate}
 use lib.Dec.{eqb}
 use borrow.Author.Tests.{eqb-true, eqb-false, not-true}
@@ -23,7 +23,7 @@ use Rattle.packets.proofs.InvJobs.{NotOf, assigned-inv, close-inv, returned-inv}
 use Rattle.packets.proofs.InvStores.{busy-inv, idle-inv, motion-move, store-inv, sweep-inv}
 use Rattle.packets.proofs.InvUnits.{lock-inv, marked-inv}
 use Rattle.numbers.specs.Elements.{All, find}
-use Rattle.packets.proofs.Laws.{all-imp, and_left, and_right, any_none, eqb-self, find-holds, get_d-replicate-const}
+use Rattle.packets.proofs.Laws.{idle-moves, all-imp, and_left, and_right, any_none, eqb-self, find-holds, get_d-replicate-const}
 use Rattle.packets.specs.Rules.{Call, Do, Take, accept, always, begun, closing, code_for, cut, decided, failed, finished, is_at, is_none}
 use Rattle.packets.specs.Rules.{is_trouble, over, refusal, return_if_done, startable, step}
 use Rattle.packets.specs.declared.Act.TheVariants as Act'
@@ -36,11 +36,9 @@ use Rattle.packets.specs.declared.How.{How}
 use Rattle.packets.specs.declared.Job.{Job}
 use Rattle.packets.specs.declared.JobState.{JobState}
 use Rattle.packets.specs.declared.JobState.TheVariants.{ClosingError, ClosingNormal, Empty, Running}
-use Rattle.packets.specs.declared.Motion.{Motion}
-use Rattle.packets.specs.declared.Motion.TheVariants.{Busy, Idle}
+use Rattle.packets.specs.State.{Motion}
 use Rattle.packets.specs.declared.Status.TheVariants.{Ended, InProgress}
-use Rattle.packets.specs.declared.Verdict.{Verdict}
-use Rattle.packets.specs.declared.Verdict.TheVariants.{Denied, Granted}
+use Rattle.packets.specs.State.{Verdict}
 use Rattle.packets.proofs.StepSubmit.{submit-inv}
 
 -- ---- a return
@@ -57,10 +55,10 @@ closing-not-running Running e = never {b = false} e refl
 closing-not-running ClosingNormal e = (refl, refl)
 closing-not-running ClosingError e = (refl, refl)
 
-pub none-moving : (s : State) (j : ℕ) → any_moves j s.moving ≡ false → (c p : ℕ) → motion_on s c ≡ Busy j p → ⊥
+pub none-moving : (s : State) (j : ℕ) → any_moves j s.moving ≡ false → (c p : ℕ) → motion_on s c ≡ Some (j, p) → ⊥
 none-moving s j n c p e =
     never {b = moves j (motion_on s c)} (rw e (eqb-self j))
-    (any_none (λ (m : Carrier). moves j m.motion) s.moving (record { motion = Idle }) n refl c)
+    (any_none (λ (m : Carrier). moves j m.motion) s.moving (record { motion = None }) n refl c)
 
 pub return-inv : (s : State) → Inv s → (j : ℕ) → Inv (return_if_done j s)
 return-inv s I j =
@@ -115,24 +113,24 @@ module _ (s : State) (I : Inv s) (c : ℕ) (small : c < 16) (e : ℕ) (k : Entry
 
 -- ---- a completion
 
-pub busy-of : (m : Motion) → is_idle m ≡ false → (j p : ℕ) × (m ≡ Busy j p)
-busy-of Idle e = never {b = true} refl e
-busy-of (Busy j p) e = (j, p, refl)
+pub busy-of : (m : Motion) → is_idle m ≡ false → (j p : ℕ) × (m ≡ Some (j, p))
+busy-of None e = never {b = true} refl e
+busy-of (Some (j, p)) e = (j, p, refl)
 
-module _ (s : State) (I : Inv s) (c : ℕ) (small : c < 16) (j p : ℕ) (is : motion_on s c ≡ Busy j p) where
+module _ (s : State) (I : Inv s) (c : ℕ) (small : c < 16) (j p : ℕ) (is : motion_on s c ≡ Some (j, p)) where
   pub over-fits : p < size_in s.jobs j
   over-fits = busy-in s.jobs j p (motion-busy (packet_in s.jobs j p).status (I.motion c j p is).going)
 
   pub over-inv : (k : ℕ) → Inv (over s c j p k)
   over-inv k =
-      store-inv (move s c Idle) (idle-inv s I c small) j p (with_status (packet_in s.jobs j p) (Ended k)) over-fits (λ b. (refl, refl)) not-elsewhere
+      store-inv (move s c None) (idle-inv s I c small) j p (with_status (packet_in s.jobs j p) (Ended k)) over-fits (λ b. (refl, refl)) not-elsewhere
     where
-      not-elsewhere : (d : ℕ) → motion_on (move s c Idle) d ≡ Busy j p → in_motion (Ended k) ≡ true
+      not-elsewhere : (d : ℕ) → motion_on (move s c None) d ≡ Some (j, p) → in_motion (Ended k) ≡ true
       not-elsewhere d m =
-          let e : cond (eqb d c) Idle (motion_on s d) ≡ Busy j p = sym (motion-move s c Idle d (rw I.channels small)) ∙ m in
+          let e : cond (eqb d c) None (motion_on s d) ≡ Some (j, p) = sym (motion-move s c None d (rw I.channels small)) ∙ m in
           by_bool (eqb d c)
-          (λ t. let z : Idle ≡ Busy j p = rw t at e in absurd (let y : ◌≡◌ {A = ℕ} 0 1 = cc in omega arith))
-          (λ t. let m' : motion_on s d ≡ Busy j p = rw t at e in
+          (λ t. absurd (idle-moves j p (rw t at e)))
+          (λ t. let m' : motion_on s d ≡ Some (j, p) = rw t at e in
           absurd (eqb-false d c t (sym (I.motion d j p m').channel ∙ (I.motion c j p is).channel)))
 
   pub over-inside : (k : ℕ) → j < length (over s c j p k).jobs
@@ -179,7 +177,7 @@ ending-inv s I j e run' =
 pub startable-on : (s : State) (c : ℕ) (e : ℕ) → startable s c e ≡ true → (packet_in s.jobs (place_of e) (packet_of e)).channel.0 ≡ c
 startable-on s c e t = eqb-true _ c (and_left (eqb (packet_in s.jobs (place_of e) (packet_of e)).channel.0 c) _ t)
 
-pub accept-inv : (s : State) → Inv s → (x : Call) → refusal s x ≡ Granted → Inv (accept s x)
+pub accept-inv : (s : State) → Inv s → (x : Call) → refusal s x ≡ Ok tt → Inv (accept s x)
 unfolding accept
 accept-inv s I (Take j asg) r = assigned-inv s I j (assigns-to s j asg r).0 (assigns-to s j asg r).1 asg
 accept-inv s I (Do (Act'.Submit j p f c w)) r = submit-inv s I j p f c.0 w (submits s j p f c.0 w r)
@@ -200,8 +198,8 @@ accept-inv s I (Do (Act'.Return j c u)) r = handed-inv s I j c.0 u.0 (returns_of
 accept-inv s I (Do (Act'.Mark c u m on)) e = marked-inv s I c.0 u.0 m on
 
 pub decided-inv : (s : State) → Inv s → (x : Call) (n : Verdict) → refusal s x ≡ n → Inv (decided s x n).state
-decided-inv s I x Granted e = accept-inv s I x e
-decided-inv s I x (Denied n) e = I
+decided-inv s I x (Ok u) e = accept-inv s I x e
+decided-inv s I x (Err n) e = I
 
 pub step-inv : (s : State) → Inv s → (x : Call) → Inv (step s x).state
 unfolding step
@@ -226,9 +224,8 @@ fresh-inv channels codes units free =
       channels = refl;
       queued = tt;
       single = tt;
-      motion = λ c j p e. absurd (let z : Idle ≡ Busy j p =
-          sym (ap (λ (m : Carrier). m.motion) (get_d-replicate-same 16 c (record { motion = Idle }))) ∙ e in
-          let y : ◌≡◌ {A = ℕ} 0 1 = cc in omega arith);
+      motion = λ c j p e. absurd (idle-moves j p
+          (sym (ap (λ (m : Carrier). m.motion) (get_d-replicate-same 16 c (record { motion = None }))) ∙ e));
       holders = λ c u j e. never {b = held_by (unit_in units c u).holder j} e (ap (λ (h : Holder). held_by h j) (free c u));
     }
 

@@ -1,4 +1,5 @@
 -- What a call's acceptance tells, and what the two changes of status leave alone. Assumes nothing.
+use Rattle.std.proofs.Common.{Ok}
 use Prim.Native.Nat.{ℕ, ◌<◌}
 use mathlib.Core.Path.{◌≡◌, refl, sym, ap}
 use mathlib.Core.Bool.{Bool, true, false, not, ◌&&◌}
@@ -18,14 +19,13 @@ use Rattle.packets.specs.Rules.{Take, cut, failed, in_range, is_none, is_own, is
 use Rattle.packets.proofs.ByNumber.{Complete, End, Return, Start, Submit}
 use Rattle.packets.specs.declared.Assignment.{Assignment}
 use Rattle.channels.specs.declared.Channel.{Channel}
-use Rattle.channels.specs.declared.Fitted.{Fitted}
-use Rattle.channels.specs.declared.Fitted.TheVariants.{Nothing, With}
+use Rattle.packets.specs.State.{Fitting}
+use Rattle.std.proofs.Common.{None, Some}
 use Rattle.packets.specs.declared.How.{How}
 use Rattle.packets.specs.declared.Spot.{Spot}
 use Rattle.packets.specs.declared.Spot.TheVariants.{OnDrum, OnUnit}
 use Rattle.packets.specs.declared.Status.{Status}
 use Rattle.packets.specs.declared.Status.TheVariants.{Blank, Ended, InProgress, Listed, Stopping}
-use Rattle.packets.specs.declared.Verdict.TheVariants.{Granted}
 
 pub configured-in : (g : List Channel) (c : ℕ) → configured g c ≡ true → c < 16
 unfolding configured
@@ -46,12 +46,12 @@ pub record Submits (s : State) (j p f c : ℕ) (w : Spot) : Type 0 where
   pub idle : is_busy (packet_in s.jobs j p).status ≡ false
 
 -- only the drum has addresses, and it has no units
-reached : (has : Fitted) (w : Spot) → reaches has w ≡ true → is_unit (site_of w) ≡ not (is_drum_of has)
-reached Nothing w e = never {b = false} e refl
-reached (With kind n) (OnUnit u) e = sym (and_left (not (is_drum kind)) _ e)
-reached (With kind n) (OnDrum x h) e = sym (ap not e)
+reached : (has : Fitting) (w : Spot) → reaches has w ≡ true → is_unit (site_of w) ≡ not (is_drum_of has)
+reached None w e = never {b = false} e refl
+reached (Some on) (OnUnit u) e = sym (and_left (not (is_drum on.kind)) _ e)
+reached (Some on) (OnDrum x h) e = sym (ap not e)
 
-pub submits : (s : State) (j p f c : ℕ) (w : Spot) → refusal s (Submit j p f c w) ≡ Granted → Submits s j p f c w
+pub submits : (s : State) (j p f c : ℕ) (w : Spot) → refusal s (Submit j p f c w) ≡ Ok tt → Submits s j p f c w
 unfolding refusal drum_on state_in packet_in
 submits s j p f c w e =
     let r₁ = passes (not (in_range (fitted_on s.channels c) j p f c w)) OutOfRange _ e in
@@ -59,7 +59,7 @@ submits s j p f c w e =
     let r₃ = passes (not (owns s j f c w)) NotTheJobs _ r₂.1 in
     let r₄ = passes (is_returning (unit_at s.units c (site_of w)).holder) BeingReturned _ r₃.1 in
     let r₅ = passes (not (legal_for (fitted_on s.channels c) f)) NotLegal _ r₄.1 in
-    let r₆ = passes (is_busy (packet_in s.jobs j p).status) PacketInUse Granted r₅.1 in
+    let r₆ = passes (is_busy (packet_in s.jobs j p).status) PacketInUse (Ok tt) r₅.1 in
     let t₁ = and_right (ltb j 16) _ (not-false (in_range (fitted_on s.channels c) j p f c w) r₁.0) in
     record {
       small = ltb-true p 16 (and_left (ltb p 16) _ t₁);
@@ -76,29 +76,29 @@ pub owns-unit : (s : State) (j p f c : ℕ) (w : Spot) → Submits s j p f c w �
 owns-unit s j p f c (OnUnit u) k e = k.owned
 owns-unit s j p f c (OnDrum x h) k e = never {b = false} e refl
 
-pub starts-on : (s : State) (c : ℕ) → refusal s (Start c) ≡ Granted
+pub starts-on : (s : State) (c : ℕ) → refusal s (Start c) ≡ Ok tt
     → (c < 16) × (is_idle (motion_on s c) ≡ true) × (is_none (find (startable s c) s.queue) ≡ false)
 unfolding refusal
 starts-on s c e =
     let r₁ = passes (not (configured s.channels c)) OutOfRange _ e in
     let r₂ = passes (not (is_idle (motion_on s c))) ChannelBusy _ r₁.1 in
-    let r₃ = passes (is_none (find (startable s c) s.queue)) NothingStartable Granted r₂.1 in
+    let r₃ = passes (is_none (find (startable s c) s.queue)) NothingStartable (Ok tt) r₂.1 in
     (configured-in s.channels c (not-false _ r₁.0), not-false _ r₂.0, r₃.0)
 
-pub completes-on : (s : State) (c : ℕ) (how : How) → refusal s (Complete c how) ≡ Granted
+pub completes-on : (s : State) (c : ℕ) (how : How) → refusal s (Complete c how) ≡ Ok tt
     → (c < 16) × (is_idle (motion_on s c) ≡ false) × (is_wrong (moving_status s (motion_on s c)) how ≡ false)
 unfolding refusal
 completes-on s c how e =
     let r₁ = passes (not (configured s.channels c)) OutOfRange _ e in
     let r₂ = passes (is_idle (motion_on s c)) NothingInProgress _ r₁.1 in
-    let r₃ = passes (is_wrong (moving_status s (motion_on s c)) how) WrongCompletion Granted r₂.1 in
+    let r₃ = passes (is_wrong (moving_status s (motion_on s c)) how) WrongCompletion (Ok tt) r₂.1 in
     (configured-in s.channels c (not-false _ r₁.0), r₂.0, r₃.0)
 
-pub ends_of : (s : State) (j : ℕ) (e : Bool) → refusal s (End j e) ≡ Granted → is_running (state_in s.jobs j) ≡ true
+pub ends_of : (s : State) (j : ℕ) (e : Bool) → refusal s (End j e) ≡ Ok tt → is_running (state_in s.jobs j) ≡ true
 unfolding refusal
 ends_of s j e r =
     let r₁ = passes (not (ltb j 16)) OutOfRange _ r in
-    let r₂ = passes (not (is_running (state_in s.jobs j))) NoJob Granted r₁.1 in
+    let r₂ = passes (not (is_running (state_in s.jobs j))) NoJob (Ok tt) r₁.1 in
     not-false _ r₂.0
 
 -- the job runs and holds the unit, whose return it has not asked for
@@ -108,7 +108,7 @@ pub record Returns (s : State) (j c u : ℕ) : Type 0 where
   pub held : held_by (unit_in s.units c u).holder j ≡ true
   pub staying : is_returning (unit_in s.units c u).holder ≡ false
 
-pub returns_of : (s : State) (j c u : ℕ) → refusal s (Return j c u) ≡ Granted → Returns s j c u
+pub returns_of : (s : State) (j c u : ℕ) → refusal s (Return j c u) ≡ Ok tt → Returns s j c u
 unfolding refusal drum_on
 returns_of s j c u e =
     let w = OnUnit (record { 0 = u }) in
@@ -117,7 +117,7 @@ returns_of s j c u e =
     let r₁ = passes (not (ltb j 16 && (ltb c 16 && reaches has w))) OutOfRange _ e in
     let r₂ = passes (not (is_running (state_in s.jobs j))) NoJob _ r₁.1 in
     let r₃ = passes (not (held_by v.holder j)) NotTheJobs _ r₂.1 in
-    let r₄ = passes (is_returning v.holder) BeingReturned Granted r₃.1 in
+    let r₄ = passes (is_returning v.holder) BeingReturned (Ok tt) r₃.1 in
     let there = and_right (ltb c 16) _ (and_right (ltb j 16) _ (not-false _ r₁.0)) in
     record {
       running = not-false _ r₂.0;
@@ -126,10 +126,10 @@ returns_of s j c u e =
       staying = r₄.0;
     }
 
-pub assigns-to : (s : State) (j : ℕ) (asg : Assignment) → refusal s (Take j asg) ≡ Granted → (j < 16) × (is_empty (state_in s.jobs j) ≡ true)
+pub assigns-to : (s : State) (j : ℕ) (asg : Assignment) → refusal s (Take j asg) ≡ Ok tt → (j < 16) × (is_empty (state_in s.jobs j) ≡ true)
 unfolding refusal
 assigns-to s j asg e =
-    let r₁ = passes (not (ltb j 16 && is_empty (state_in s.jobs j))) NoPlaceFree Granted e in
+    let r₁ = passes (not (ltb j 16 && is_empty (state_in s.jobs j))) NoPlaceFree (Ok tt) e in
     (ltb-true j 16 (and_left (ltb j 16) _ (not-false _ r₁.0)), and_right (ltb j 16) _ (not-false _ r₁.0))
 
 -- ---- statuses under the two sweeps

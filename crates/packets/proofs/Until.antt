@@ -1,5 +1,6 @@
 -- Who holds a unit that is being returned: the completion there frees it, and through every other call it is held as it
 -- was. Assumes nothing.
+use Rattle.std.proofs.Common.{Err, Ok, Some}
 use Prim.Native.Nat.{ℕ}
 use mathlib.Core.Path.{◌≡◌, refl, sym, ap, ◌∙◌}
 use mathlib.Core.Bool.{true, false, ◌&&◌}
@@ -45,11 +46,9 @@ use Rattle.packets.proofs.ByNumber.{Complete}
 use Rattle.packets.specs.declared.Act.TheVariants as Act'
 use Rattle.packets.specs.State.{State, freed_at, held_by, is_closing, motion_on, packet_in, state_in}
 use Rattle.packets.specs.declared.How.{How}
-use Rattle.packets.specs.declared.Motion.TheVariants.{Busy}
 use Rattle.packets.specs.declared.Site.{Site}
 use Rattle.packets.specs.declared.Site.TheVariants.{AtAddress, AtUnit}
-use Rattle.packets.specs.declared.Verdict.{Verdict}
-use Rattle.packets.specs.declared.Verdict.TheVariants.{Denied, Granted}
+use Rattle.packets.specs.State.{Verdict}
 
 -- ---- the completion there
 
@@ -71,7 +70,7 @@ return-free s j c u e =
     (λ h. rw h (λ n. never {b = is_returning (unit_in s.units c u).holder} e n))))
     (λ d. rw d (λ n. never {b = is_returning (unit_in s.units c u).holder} e n))
 
-pub completion-frees : (s : State) → Waits s → (c u : ℕ) (how : How) → refusal s (Complete c how) ≡ Granted
+pub completion-frees : (s : State) → Waits s → (c u : ℕ) (how : How) → refusal s (Complete c how) ≡ Ok tt
     → is_returning (unit_in s.units c u).holder ≡ true
     → (unit_in (accept s (Complete c how)).units c u).holder ≡ Free
 unfolding accept
@@ -92,13 +91,13 @@ module _ (s : State) (I : Inv s) (W : Waits s) (c u : ℕ) (e : is_returning (un
   wait = W c u e
 
   -- the facilities of its job do not return before
-  not_done : (s' : State) → motion_on s' c ≡ Busy wait.place wait.packet → is_done s' wait.place ≡ false
+  not_done : (s' : State) → motion_on s' c ≡ Some (wait.place, wait.packet) → is_done s' wait.place ≡ false
   not_done s' m =
       by_bool (is_done s' wait.place)
       (λ d. absurd (none-moving s' wait.place (not-true _ (and_right (is_closing (state_in s'.jobs wait.place)) _ d)) c wait.packet m))
       (λ d. d)
 
-  return-keeps : (s' : State) (j : ℕ) → motion_on s' c ≡ Busy wait.place wait.packet
+  return-keeps : (s' : State) (j : ℕ) → motion_on s' c ≡ Some (wait.place, wait.packet)
       → (unit_in s'.units c u).holder ≡ (unit_in s.units c u).holder
       → (unit_in (return_if_done j s').units c u).holder ≡ (unit_in s.units c u).holder
   return-keeps s' j m same =
@@ -118,7 +117,7 @@ module _ (s : State) (I : Inv s) (W : Waits s) (c u : ℕ) (e : is_returning (un
       (λ t. rw (t, held-unit units d v.0 Free (returning-taken (unit_in units d v.0).holder t) c u, n))
       (λ t. rw t)
 
-  accept-until : (x : Call) → refusal s x ≡ Granted → ((how : How) → x ≡ Complete c how → ⊥)
+  accept-until : (x : Call) → refusal s x ≡ Ok tt → ((how : How) → x ≡ Complete c how → ⊥)
       → (unit_in (accept s x).units c u).holder ≡ (unit_in s.units c u).holder
   unfolding accept
   accept-until (Take j asg) r o =
@@ -137,7 +136,7 @@ module _ (s : State) (I : Inv s) (W : Waits s) (c u : ℕ) (e : is_returning (un
       let p = y.1 in
       let s₁ = finished s d.0 how j p in
       let apart : eqb c d.0 ≡ false = ne_eqb c d.0 (λ q. o how (ap (λ (n : ℕ). Complete n how) (sym q))) in
-      let moves : motion_on s₁ c ≡ Busy wait.place wait.packet =
+      let moves : motion_on s₁ c ≡ Some (wait.place, wait.packet) =
       finished-motion s d.0 how j p c ∙ motion-move s d.0 _ c (rw I.channels m.0) ∙ rw apart wait.moves in
       rw y.2
       (ap (λ (v : UnitState). v.holder) (back-keeps (return_if_done j s₁).units d.0 (packet_in s.jobs j p).at apart)
@@ -162,8 +161,8 @@ module _ (s : State) (I : Inv s) (W : Waits s) (c u : ℕ) (e : is_returning (un
   step_until x o = go (refusal s x) refl
     where
       go : (n : Verdict) → refusal s x ≡ n → (unit_in (decided s x n).state.units c u).holder ≡ (unit_in s.units c u).holder
-      go Granted r = accept-until x r o
-      go (Denied n) r = refl
+      go (Ok u) r = accept-until x r o
+      go (Err n) r = refl
 
 -- and through several
 pub leads-until : (k : List Event) (s : State) → Reached k s → (c u : ℕ) → is_returning (unit_in s.units c u).holder ≡ true

@@ -1,5 +1,6 @@
 -- A unit that is being returned waits for a packet of its job that is stopping there: a return makes it so, no call but
 -- the completion there ends that packet, and the completion gives the unit back. Assumes nothing.
+use Rattle.std.proofs.Common.{None, Ok, Some}
 use Prim.Native.Nat.{ℕ}
 use mathlib.Core.Path.{◌≡◌, refl, sym, ap, ◌∙◌}
 use mathlib.Core.Bool.{Bool, true, false, cond, ◌&&◌}
@@ -21,7 +22,7 @@ use Rattle.packets.proofs.Handing.{handed-to, held-unit, next, returning-taken, 
 use Rattle.packets.proofs.Inv.{Inv}
 use Rattle.packets.proofs.InvJobs.{held-taken}
 use Rattle.packets.proofs.InvUnits.{mark-holder}
-use Rattle.packets.proofs.Laws.{and_left, and_right, eqb-self}
+use Rattle.packets.proofs.Laws.{same-motion, and_left, and_right, eqb-self}
 use Rattle.packets.proofs.Sites.{same-is}
 use Rattle.packets.proofs.Steps.{busy-of, reached-inv}
 use Rattle.packets.proofs.Store.{packet-restatus, unit-keep, unit-release, unit-take}
@@ -34,13 +35,11 @@ use Rattle.packets.proofs.ByNumber.{Complete, End, Mark, Return, Start, Submit}
 use Rattle.packets.specs.declared.Act.TheVariants as Act'
 use Rattle.packets.specs.State.{State, freed_at, held_by, motion_on, packet_in, release, restatus_all, take_unit, wanted, with_holder}
 use Rattle.packets.specs.declared.How.{How}
-use Rattle.packets.specs.declared.Motion.{Motion}
-use Rattle.packets.specs.declared.Motion.TheVariants.{Busy, Idle}
+use Rattle.packets.specs.State.{Motion}
 use Rattle.packets.specs.declared.Packet.{Packet}
 use Rattle.packets.specs.declared.Site.{Site}
 use Rattle.packets.specs.declared.Site.TheVariants.{AtAddress, AtUnit}
 use Rattle.packets.specs.declared.Status.TheVariants.{Stopping}
-use Rattle.packets.specs.declared.Verdict.TheVariants.{Granted}
 use Rattle.packets.proofs.GoesOn.{Goes, goes}
 
 -- ---- what is kept
@@ -50,7 +49,7 @@ pub record Waiting (s : State) (c u : ℕ) : Type 0 where
   pub place : ℕ
   pub packet : ℕ
   pub held : held_by (unit_in s.units c u).holder place ≡ true
-  pub moves : motion_on s c ≡ Busy place packet
+  pub moves : motion_on s c ≡ Some (place, packet)
   pub at : (packet_in s.jobs place packet).at ≡ unit_site u
   pub stopping : (packet_in s.jobs place packet).status ≡ Stopping
 
@@ -120,7 +119,7 @@ keeps-waiting s s' c u w e g =
 
 module _ (s : State) (I : Inv s) (W : Waits s) where
   -- a unit that was being returned, through a call that is no completion on its channel
-  still-waits : (x : Call) → refusal s x ≡ Granted → (c u : ℕ) → is_returning (unit_in (accept s x).units c u).holder ≡ true
+  still-waits : (x : Call) → refusal s x ≡ Ok tt → (c u : ℕ) → is_returning (unit_in (accept s x).units c u).holder ≡ true
       → (unit_in s.units c u).holder ≡ (unit_in (accept s x).units c u).holder
       → ((w : Waiting s c u) (how : How) → x ≡ Complete c how → ⊥) → Waiting (accept s x) c u
   still-waits x r c u e same o =
@@ -136,12 +135,12 @@ module _ (s : State) (I : Inv s) (W : Waits s) where
     where
       by-motion : (m : Motion) → motion_on s d ≡ m → (unit_in (handed_back s j d (unit_site v)).units d v).holder ≡ next s I j d v k
           → moves_at s j d (unit_site v) (motion_on s d) ≡ true → Waiting (handed_back s j d (unit_site v)) d v
-      by-motion Idle is h t = never {b = false} (rw is at t) refl
-      by-motion (Busy i p) is h t =
+      by-motion None is h t = never {b = false} (rw is at t) refl
+      by-motion (Some (i, p)) is h t =
           let t' : eqb i j && is_at d (unit_site v) (packet_in s.jobs j p) ≡ true = rw is at t in
           let x : i ≡ j = eqb-true i j (and_left (eqb i j) _ t') in
           let y : is_at d (unit_site v) (packet_in s.jobs j p) ≡ true = and_right (eqb i j) _ t' in
-          let is' : motion_on s d ≡ Busy j p = rw x at is in
+          let is' : motion_on s d ≡ Some (j, p) = rw x at is in
           let q = packet_in s.jobs j p in
           let z : packet_in (restatus_all s.jobs j (is_at d (unit_site v)) cut) j p
           ≡ record { status = cut q.status; function = q.function; channel = q.channel; at = q.at } =
@@ -155,7 +154,7 @@ module _ (s : State) (I : Inv s) (W : Waits s) where
             stopping = ap (λ (o : Packet). o.status) z ∙ cut-halts q.status (cut-going q.status (I.motion d j p is').going);
           }
 
-  accept-waits : (x : Call) → refusal s x ≡ Granted → Waits (accept s x)
+  accept-waits : (x : Call) → refusal s x ≡ Ok tt → Waits (accept s x)
   unfolding accept
   accept-waits (Take j asg) r c u e =
       let k = unit-take s.units j (wanted asg) c u in
@@ -188,10 +187,8 @@ module _ (s : State) (I : Inv s) (W : Waits s) where
       still-waits (Complete d.0 how) r c u e (rw y.2 same)
       (λ w how' q.
       let f : d.0 ≡ c = cc in
-      let m : Busy w.place w.packet ≡ Busy j p = sym w.moves ∙ ap (motion_on s) (sym f) ∙ y.2 in
-      let i : w.place ≡ j = cc in
-      let n : w.packet ≡ p = cc in
-      k.1 (sym f) (rw (i, n) at w.at))
+      let m = same-motion w.place w.packet j p (sym w.moves ∙ ap (motion_on s) (sym f) ∙ y.2) in
+      k.1 (sym f) (rw (m.0, m.1) at w.at))
   accept-waits (Do (Act'.End j b)) r c u e =
       still-waits (End j b) r c u e (return-returning (closed s j b) j c u e) (λ v how q. let y : ◌≡◌ {A = ℕ} 0 1 = cc in omega arith)
   accept-waits (Do (Act'.Return j d v)) r c u e =

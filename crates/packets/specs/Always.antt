@@ -1,5 +1,5 @@
 -- What holds in every reached state. A reader has to believe this page.
-use Rattle.std.specs.Prelude.{ℕ, ◌≡◌, true, false, not, List, eqb}
+use Rattle.std.specs.Prelude.{ℕ, ◌≡◌, true, false, not, List, eqb, Some}
 use Rattle.numbers.specs.declared.UnitNumber.{UnitNumber}
 use Rattle.units.specs.State.{is_returning, unit_in}
 use Rattle.packets.specs.History.{Event, Reached}
@@ -22,7 +22,6 @@ use Rattle.packets.specs.State.{
 }
 use Rattle.numbers.specs.Elements.{All, Nodup, any}
 use Rattle.packets.specs.Rules.{is_at}
-use Rattle.packets.specs.declared.Motion.TheVariants.{Busy}
 use Rattle.packets.specs.declared.Packet.{Packet}
 use Rattle.packets.specs.declared.Site.TheVariants.{AtUnit}
 use Rattle.packets.specs.declared.Status.TheVariants.{Stopping}
@@ -34,8 +33,8 @@ packet_at s j p = packet_in s.jobs j p
 pub record Always (s : State) : Type 0 where
   -- one packet in progress or stopping per channel: what moves on a channel is one, submitted there, and each such
   -- packet moves there
-  pub moving : (c j p : ℕ) → motion_on s c ≡ Busy j p → (in_motion (packet_at s j p).status ≡ true) × ((packet_at s j p).channel.0 ≡ c)
-  pub movers : (j p : ℕ) → in_motion (packet_at s j p).status ≡ true → motion_on s (packet_at s j p).channel.0 ≡ Busy j p
+  pub moving : (c j p : ℕ) → motion_on s c ≡ Some (j, p) → (in_motion (packet_at s j p).status ≡ true) × ((packet_at s j p).channel.0 ≡ c)
+  pub movers : (j p : ℕ) → in_motion (packet_at s j p).status ≡ true → motion_on s (packet_at s j p).channel.0 ≡ Some (j, p)
   -- listed packets are exactly those in the list, once each
   pub entries : All (λ (e : ℕ). is_still s.jobs e ≡ true) s.queue
   pub members : (j p : ℕ) → is_listed (packet_at s j p).status ≡ true → any (eqb (entry_of j p)) s.queue ≡ true
@@ -56,7 +55,7 @@ pub record Always (s : State) : Type 0 where
       → (packet_at s j p).status ≡ Stopping
   -- on a unit that is being returned a packet of the job that holds it is stopping, and no other of it is listed or moves
   pub returning : (c u : ℕ) → is_returning (unit_in s.units c u).holder ≡ true
-      → (j p : ℕ) × (held_by (unit_in s.units c u).holder j ≡ true) × (motion_on s c ≡ Busy j p)
+      → (j p : ℕ) × (held_by (unit_in s.units c u).holder j ≡ true) × (motion_on s c ≡ Some (j, p))
       × ((packet_at s j p).at ≡ AtUnit (record { 0 = u })) × ((packet_at s j p).status ≡ Stopping)
   pub unlisted : (c u : ℕ) → is_returning (unit_in s.units c u).holder ≡ true → (j p : ℕ)
       → is_listed (packet_at s j p).status ≡ true → is_at c (AtUnit (record { 0 = u })) (packet_at s j p) ≡ false

@@ -2,7 +2,7 @@
 -- other than the drum sets its interlock and ends that unit's listed packets with 01", whatever its code (request 5, by
 -- which a completion may free its unit, is in both). And the section matters to completions alone. A reader has to
 -- believe this page.
-use Rattle.std.specs.Prelude.{ℕ, ◌+◌, ◌-◌, ◌^◌, ◌≤◌, ◌≡◌, Bool, true, false, cond, ◌&&◌}
+use Rattle.std.specs.Prelude.{ℕ, ◌+◌, ◌-◌, ◌^◌, ◌≤◌, ◌≡◌, Bool, true, false, cond, ◌&&◌, None, Ok, Some}
 use Rattle.numbers.specs.declared.ChannelNumber.{ChannelNumber}
 use Rattle.channels.specs.Channels.{sets_interlock}
 use Rattle.packets.specs.Rules.{
@@ -25,9 +25,7 @@ use Rattle.packets.specs.declared.Answer.{Answer}
 use Rattle.packets.specs.declared.Answer.TheVariants.{Completed, Done}
 use Rattle.packets.specs.declared.How.{How}
 use Rattle.packets.specs.declared.How.TheVariants.{Cut, Failed, Full}
-use Rattle.packets.specs.declared.Motion.{Motion}
-use Rattle.packets.specs.declared.Motion.TheVariants.{Busy, Idle}
-use Rattle.packets.specs.declared.Verdict.TheVariants.{Granted}
+use Rattle.packets.specs.State.{Motion}
 
 -- all 60 codes set interlock: "02 to 77 octal and neither 16 nor 17"
 abbrev pub AllListed : ℕ → Type 0
@@ -49,17 +47,17 @@ finished_before s c how j p =
     cond (is_failure how && is_unit a) (broken (over s c j p (code_for how)) c a j) (over s c j p (code_for how))
 
 abbrev pub completed_before : State → ℕ → How → Motion → State
-completed_before s c how Idle = s
-completed_before s c how (Busy j p) = free_if_returning (return_if_done j (finished_before s c how j p)) c (packet_in s.jobs j p).at
+completed_before s c how None = s
+completed_before s c how (Some (j, p)) = free_if_returning (return_if_done j (finished_before s c how j p)) c (packet_in s.jobs j p).at
 
 abbrev pub completes_before : State → ℕ → How → Motion → Answer
-completes_before s c how Idle = Done
-completes_before s c how (Busy j p) = Completed j p (leaving j (finished_before s c how j p))
+completes_before s c how None = Done
+completes_before s c how (Some (j, p)) = Completed j p (leaving j (finished_before s c how j p))
 
 -- a completion that is not refused leaves and answers the same as then
 abbrev pub AsBefore : Type 0
 AsBefore =
-    (s : State) → AllListed s.codes → (c : ChannelNumber) (how : How) → refusal s (Do (Complete c how)) ≡ Granted
+    (s : State) → AllListed s.codes → (c : ChannelNumber) (how : How) → refusal s (Do (Complete c how)) ≡ Ok tt
     → (accept s (Do (Complete c how)) ≡ completed_before s c.0 how (motion_on s c.0))
     × (answer s (Do (Complete c how)) ≡ completes_before s c.0 how (motion_on s c.0))
 

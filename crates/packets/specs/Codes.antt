@@ -1,6 +1,6 @@
 -- What an accepted call does to each packet's status: a packet ends with exactly the code that document 01 states for
 -- what ended it, and keeps it until it is submitted again or the place is taken. A reader has to believe this page.
-use Rattle.std.specs.Prelude.{ℕ, ◌≡◌, Bool, false, not, cond, ◌&&◌, ◌||◌, List, eqb}
+use Rattle.std.specs.Prelude.{ℕ, ◌≡◌, Bool, false, not, cond, ◌&&◌, ◌||◌, List, eqb, None, Ok, Some}
 use Rattle.std.proofs.Math.Option.{Option, none, some}
 use Rattle.packets.specs.History.{Event, Reached}
 use Rattle.packets.specs.Lone.{ends_with, stops}
@@ -23,13 +23,11 @@ use Rattle.packets.specs.State.{is_packet, is_unit, State, motion_on, packet_in,
 use Rattle.packets.specs.declared.Act.TheVariants.{Submit, Start, Complete, End, Return, Mark}
 use Rattle.packets.specs.declared.How.{How}
 use Rattle.packets.specs.declared.How.TheVariants.{Cut, Failed, Full}
-use Rattle.packets.specs.declared.Motion.{Motion}
-use Rattle.packets.specs.declared.Motion.TheVariants.{Busy, Idle}
+use Rattle.packets.specs.State.{Motion}
 use Rattle.packets.specs.declared.Site.TheVariants.{AtUnit}
 use Rattle.packets.specs.declared.Spot.{Spot}
 use Rattle.packets.specs.declared.Status.{Status}
 use Rattle.packets.specs.declared.Status.TheVariants.{Blank, Ended, InProgress, Listed}
-use Rattle.packets.specs.declared.Verdict.TheVariants.{Granted}
 
 -- the packet that a start takes
 abbrev pub takes : Option ℕ → ℕ → ℕ → Bool
@@ -55,8 +53,8 @@ code_of (Failed k) = k
 -- a completion: the packet that moved ends with 00, 17o or the failure's code; a failure with a code that sets
 -- interlock ends with 01 what is listed on its unit, any other ends nothing else
 abbrev pub after_complete : State → ℕ → How → Motion → ℕ → ℕ → Status
-after_complete s c how Idle i n = (packet_in s.jobs i n).status
-after_complete s c how (Busy j p) i n =
+after_complete s c how None i n = (packet_in s.jobs i n).status
+after_complete s c how (Some (j, p)) i n =
     let q = packet_in s.jobs i n in
     let a = (packet_in s.jobs j p).at in
     cond (is_packet j p i n) (Ended (code_of how))
@@ -80,7 +78,7 @@ status_after s (Do (Mark c u m on)) i n = (packet_in s.jobs i n).status
 -- of each accepted call in a reached state
 abbrev pub Codes : Type 0
 Codes =
-    (l : List Event) (s : State) → Reached l s → (x : Call) → refusal s x ≡ Granted → (i n : ℕ)
+    (l : List Event) (s : State) → Reached l s → (x : Call) → refusal s x ≡ Ok tt → (i n : ℕ)
     → (packet_in (accept s x).jobs i n).status ≡ status_after s x i n
 
 -- the calls that a packet's ended status does not outlast: its own submission, and a taking of its place

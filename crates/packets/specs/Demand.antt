@@ -1,5 +1,5 @@
 -- Demand 3: what a job's holding sees is what a lone unit would do. A reader has to believe this page.
-use Rattle.std.specs.Prelude.{ℕ, ◌≡◌, Bool, true, false, not, cond, ◌&&◌, List, [], ◌∷◌, ◌++◌, ltb, eqb}
+use Rattle.std.specs.Prelude.{ℕ, ◌≡◌, Bool, true, false, not, cond, ◌&&◌, List, [], ◌∷◌, ◌++◌, ltb, eqb, Ok, Some}
 use Rattle.std.proofs.Math.Option.{Option, none, some}
 use Rattle.units.specs.State.{unit_in}
 use Rattle.packets.specs.History.{Event, Leads, Reached, is_accepted}
@@ -12,13 +12,11 @@ use Rattle.packets.specs.declared.Answer.{Answer}
 use Rattle.packets.specs.declared.Answer.TheVariants.{Closed, Completed, Done, Refused, Started}
 use Rattle.packets.specs.declared.Assignment.{Assignment}
 use Rattle.packets.specs.declared.Begun.{Begun}
-use Rattle.packets.specs.declared.Motion.TheVariants.{Busy}
 use Rattle.packets.specs.declared.Packet.{Packet}
 use Rattle.packets.specs.declared.Site.{Site}
 use Rattle.packets.specs.declared.Site.TheVariants.{AtAddress, AtUnit}
 use Rattle.packets.specs.declared.Spot.{Spot}
 use Rattle.packets.specs.declared.Spot.TheVariants.{OnDrum, OnUnit}
-use Rattle.packets.specs.declared.Verdict.TheVariants.{Granted}
 
 -- ---- a holding: what one job holds
 
@@ -170,7 +168,7 @@ OwnStarts h t (e ∷ l) =
 -- so is what moves on the unit
 abbrev pub OwnMotion : Holding → Seen → State → Type 0
 OwnMotion h t s =
-    (j p : ℕ) → motion_on s h.channel ≡ Busy j p → (packet_in s.jobs j p).at ≡ its_unit h → (j ≡ h.place) × (t p ≡ true)
+    (j p : ℕ) → motion_on s h.channel ≡ Some (j, p) → (packet_in s.jobs j p).at ≡ its_unit h → (j ≡ h.place) × (t p ≡ true)
 
 -- of a stretch, by its calls and the answers to them, and of the state at its end; every moment of a stretch is the
 -- end of a shorter one. The lone unit's section is `codes`
@@ -195,7 +193,7 @@ pub record Isolated (codes : ℕ) (h : Holding) (l : List Event) (end : State) :
 -- moment. "Demand 3's lone unit takes the same section"
 abbrev pub IsolatedAlways : Type 0
 IsolatedAlways =
-    (before : List Event) (s : State) → Reached before s → (j : ℕ) (asg : Assignment) → refusal s (Take j asg) ≡ Granted
+    (before : List Event) (s : State) → Reached before s → (j : ℕ) (asg : Assignment) → refusal s (Take j asg) ≡ Ok tt
     → (h : Holding) → h.place ≡ j → Holds (step s (Take j asg)).state h
     → (during : List Event) (end : State) → Leads (step s (Take j asg)).state during end
     → Stretch h (step s (Take j asg)).state during

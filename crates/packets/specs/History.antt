@@ -1,6 +1,6 @@
 -- A HISTORY of the request lists: where it begins, its calls with their answers, and the states that they lead to. A
 -- reader has to believe this page.
-use Rattle.std.specs.Prelude.{ℕ, ◌≡◌, Bool, true, false, List, [], ◌∷◌, replicate}
+use Rattle.std.specs.Prelude.{ℕ, ◌≡◌, Bool, true, false, List, [], ◌∷◌, replicate, None}
 use Rattle.units.specs.State.{unit_in}
 use Rattle.units.specs.declared.Holder.TheVariants.{Free}
 use Rattle.units.specs.declared.Unit.{Unit as UnitState}
@@ -11,7 +11,6 @@ use Rattle.packets.specs.declared.Answer.{Answer}
 use Rattle.packets.specs.declared.Answer.TheVariants.{Closed, Completed, Done, Refused, Started}
 use Rattle.packets.specs.declared.Job.{Job}
 use Rattle.packets.specs.declared.JobState.TheVariants.{Empty}
-use Rattle.packets.specs.declared.Motion.TheVariants.{Idle}
 
 -- ---- a fresh cell: nothing listed or moving, no job, and no unit held
 
@@ -25,7 +24,7 @@ fresh channels codes units =
       codes = codes;
       units = units;
       queue = [];
-      moving = replicate 16 (record { motion = Idle });
+      moving = replicate 16 (record { motion = None });
       jobs = replicate 16 empty_place;
     }
 

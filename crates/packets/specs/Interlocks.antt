@@ -1,13 +1,12 @@
 -- When a unit has interlock. An accepted call sets it if it is a failure there with one of "the codes that set
 -- interlock", and clears it if it is 07 there or takes a job that gets the unit; no other call changes it. A reader has
 -- to believe this page.
-use Rattle.std.specs.Prelude.{ℕ, Bool, false, cond, ◌&&◌, ◌||◌, eqb}
+use Rattle.std.specs.Prelude.{ℕ, Bool, false, cond, ◌&&◌, ◌||◌, eqb, None, Some}
 use Rattle.units.specs.State.{unit_in}
 use Rattle.packets.specs.Rules.{Call, Do, Take, accept, is_trouble, site_of}
 use Rattle.packets.specs.State.{State, held_by, motion_on, packet_in, same}
 use Rattle.packets.specs.declared.Act.TheVariants.{Submit, Start, Complete, End, Return, Mark}
-use Rattle.packets.specs.declared.Motion.{Motion}
-use Rattle.packets.specs.declared.Motion.TheVariants.{Busy, Idle}
+use Rattle.packets.specs.State.{Motion}
 use Rattle.packets.specs.declared.Site.{Site}
 use Rattle.packets.specs.declared.Site.TheVariants.{AtUnit}
 
@@ -17,8 +16,8 @@ is_that c u d a = eqb c d && same (AtUnit (record { 0 = u })) a
 
 -- what moves on channel d is at unit u of channel c
 abbrev pub carried_at : State → ℕ → Motion → ℕ → ℕ → Bool
-carried_at s d Idle c u = false
-carried_at s d (Busy j p) c u = is_that c u d (packet_in s.jobs j p).at
+carried_at s d None c u = false
+carried_at s d (Some (j, p)) c u = is_that c u d (packet_in s.jobs j p).at
 
 -- whether unit u of channel c has interlock after an accepted call
 unfoldable pub interlock_after : State → Call → ℕ → ℕ → Bool

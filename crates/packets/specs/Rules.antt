@@ -1,6 +1,6 @@
 -- Document 01, 'Packets and request lists' and 'Refused calls', as rules, with requests 3 and 5 of document 02 in them:
 -- what each call is refused for, what it leaves, what it answers. A reader has to believe this page. Codes are octal.
-use Rattle.std.specs.Prelude.{ℕ, ◌+◌, Bool, true, false, not, cond, ◌&&◌, ◌||◌, List, get_or, set, replicate, ltb, leb, eqb}
+use Rattle.std.specs.Prelude.{ℕ, ◌+◌, Bool, true, false, not, cond, ◌&&◌, ◌||◌, List, get_or, set, replicate, ltb, leb, eqb, Err, None, Ok, Some}
 use Rattle.std.proofs.Math.Option.{Option, none, some}
 use Rattle.numbers.specs.Kinds.{is_drum}
 use Rattle.numbers.specs.declared.Refusal.{Refusal}
@@ -23,16 +23,12 @@ use Rattle.units.specs.declared.Holder.TheVariants.{Free, Returning}
 use Rattle.units.specs.declared.Unit.{Unit as UnitState}
 use Rattle.units.specs.declared.Mark.{Mark as UnitMark}
 use Rattle.channels.specs.Channels.{sets_interlock}
-use Rattle.channels.specs.declared.Fitted.{Fitted}
-use Rattle.channels.specs.declared.Fitted.TheVariants.{Nothing, With}
 use Rattle.packets.specs.declared.Status.{Status}
 use Rattle.packets.specs.declared.Status.TheVariants.{Blank, Listed, InProgress, Stopping, Ended}
 use Rattle.packets.specs.declared.Packet.{Packet}
 use Rattle.packets.specs.declared.JobState.{JobState}
 use Rattle.packets.specs.declared.JobState.TheVariants.{Empty, Running, ClosingNormal, ClosingError}
 use Rattle.packets.specs.declared.Job.{Job}
-use Rattle.packets.specs.declared.Motion.{Motion}
-use Rattle.packets.specs.declared.Motion.TheVariants.{Idle, Busy}
 use Rattle.packets.specs.declared.Spot.{Spot}
 use Rattle.packets.specs.declared.Spot.TheVariants.{OnUnit, OnDrum}
 use Rattle.packets.specs.declared.Site.{Site}
@@ -46,11 +42,12 @@ use Rattle.packets.specs.declared.Leaving.{Leaving}
 use Rattle.packets.specs.declared.Leaving.TheVariants.{Stays, AfterNormal, AfterError}
 use Rattle.packets.specs.declared.Answer.{Answer}
 use Rattle.packets.specs.declared.Answer.TheVariants.{Done, Started, Completed, Closed, Refused}
-use Rattle.packets.specs.declared.Verdict.{Verdict}
-use Rattle.packets.specs.declared.Verdict.TheVariants.{Granted, Denied}
 use Rattle.numbers.specs.Elements.{find}
 use Rattle.packets.specs.State.{
   State,
+  Fitting,
+  Motion,
+  Verdict,
   fitted_on,
   configured,
   legal_for,
@@ -106,10 +103,10 @@ site_of (OnDrum x h) = AtAddress x
 
 -- a unit, 0 to 15, that the channel has; on the drum channel any address (it is never out of range, only not the
 -- job's)
-abbrev pub reaches : Fitted → Spot → Bool
-reaches Nothing w = false
-reaches (With kind n) (OnUnit u) = not (is_drum kind) && (ltb u.0 16 && ltb u.0 n)
-reaches (With kind n) (OnDrum x h) = is_drum kind
+abbrev pub reaches : Fitting → Spot → Bool
+reaches None w = false
+reaches (Some on) (OnUnit u) = not (is_drum on.kind) && (ltb u.0 16 && ltb u.0 on.n)
+reaches (Some on) (OnDrum x h) = is_drum on.kind
 
 -- an address X inside the job's area
 abbrev pub in_area : Job → ℕ → Bool
@@ -195,7 +192,7 @@ startable s c e = startable_on s.units s.jobs c e
 abbrev pub begun : State → ℕ → ℕ → State
 begun s c e =
     move (store s (place_of e) (packet_of e) (with_status (packet_in s.jobs (place_of e) (packet_of e)) InProgress)) c
-    (Busy (place_of e) (packet_of e))
+    (Some (place_of e, packet_of e))
 
 -- start takes the oldest such packet
 abbrev pub started : State → ℕ → Option ℕ → State
@@ -256,7 +253,7 @@ is_trouble codes (Failed k) = sets_interlock codes k
 
 -- packet p of place j, in progress or stopping on channel c, has ended with a code
 abbrev pub over : State → ℕ → ℕ → ℕ → ℕ → State
-over s c j p k = store (move s c Idle) j p (with_status (packet_in s.jobs j p) (Ended k))
+over s c j p k = store (move s c None) j p (with_status (packet_in s.jobs j p) (Ended k))
 
 -- a failure with one of those codes on a unit other than the drum sets its interlock and ends that unit's listed packets
 -- with 01
@@ -282,13 +279,13 @@ free_if_returning s c a =
     }
 
 abbrev pub completed : State → ℕ → How → Motion → State
-completed s c how Idle = s
-completed s c how (Busy j p) = free_if_returning (return_if_done j (finished s c how j p)) c (packet_in s.jobs j p).at
+completed s c how None = s
+completed s c how (Some (j, p)) = free_if_returning (return_if_done j (finished s c how j p)) c (packet_in s.jobs j p).at
 
 -- a completion answers the place and number of the packet it ends, and whether the facilities returned
 abbrev pub completes : State → ℕ → How → Motion → Answer
-completes s c how Idle = Done
-completes s c how (Busy j p) = Completed j p (leaving j (finished s c how j p))
+completes s c how None = Done
+completes s c how (Some (j, p)) = Completed j p (leaving j (finished s c how j p))
 
 -- ---- a job's end
 
@@ -312,8 +309,8 @@ ended s j e = return_if_done j (closed s j e)
 
 -- a packet of the job in place j is in progress or stopping at a on channel c
 abbrev pub moves_at : State → ℕ → ℕ → Site → Motion → Bool
-moves_at s j c a Idle = false
-moves_at s j c a (Busy k p) = eqb k j && is_at c a (packet_in s.jobs j p)
+moves_at s j c a None = false
+moves_at s j c a (Some (k, p)) = eqb k j && is_at c a (packet_in s.jobs j p)
 
 -- the return "ends that unit's listed packets with 16 octal and makes one in progress stopping"; the unit is being
 -- returned while that moves, and free "at once if nothing moves". It doesn't touch interlock
@@ -354,7 +351,7 @@ marked s c u m on =
 
 -- refused with this if the test holds, else what the later tests say
 abbrev pub first : Bool → Refusal → Verdict → Verdict
-first true n r = Denied n
+first true n r = Err n
 first false n r = r
 
 -- cut for a packet not stopping; failure code 00, 01, 16o, 17o or over 77o
@@ -369,11 +366,11 @@ is_none none = true
 is_none (some e) = false
 
 -- place, channel, unit, packet or function number out of range, or channel or unit not configured
-abbrev pub in_range : Fitted → ℕ → ℕ → ℕ → ℕ → Spot → Bool
+abbrev pub in_range : Fitting → ℕ → ℕ → ℕ → ℕ → Spot → Bool
 in_range has j p f c w = ltb j 16 && (ltb p 16 && (ltb f 64 && (ltb c 16 && reaches has w)))
 
 -- a submission, by what the channel has, the job in the place and the unit
-abbrev pub submit_refusal : Fitted → Job → UnitState → ℕ → ℕ → ℕ → ℕ → Spot → Verdict
+abbrev pub submit_refusal : Fitting → Job → UnitState → ℕ → ℕ → ℕ → ℕ → Spot → Verdict
 submit_refusal has job unit j p f c w =
     first (not (in_range has j p f c w)) OutOfRange
     (first (not (is_running job.state)) NoJob
@@ -381,39 +378,39 @@ submit_refusal has job unit j p f c w =
     (first (is_returning unit.holder) BeingReturned
     (first (not (legal_for has f)) NotLegal
     (first (is_busy (get_or job.packets p blank).status) PacketInUse
-    Granted)))))
+    (Ok tt))))))
 
 -- a return, by what the channel has, the job's state and the unit; the drum channel has no unit
-abbrev pub return_refusal : Fitted → JobState → UnitState → ℕ → ℕ → ℕ → Verdict
+abbrev pub return_refusal : Fitting → JobState → UnitState → ℕ → ℕ → ℕ → Verdict
 return_refusal has state head j c u =
     first (not (ltb j 16 && (ltb c 16 && reaches has (OnUnit (record { 0 = u }))))) OutOfRange
     (first (not (is_running state)) NoJob
     (first (not (held_by head.holder j)) NotTheJobs
     (first (is_returning head.holder) BeingReturned
-    Granted)))
+    (Ok tt))))
 
 unfoldable pub refusal : State → Call → Verdict
 -- a job is taken into a place that is free; 18 is for any other, which no selection names (it is shown of each)
-refusal s (Take j asg) = first (not (ltb j 16 && is_empty (state_in s.jobs j))) NoPlaceFree Granted
+refusal s (Take j asg) = first (not (ltb j 16 && is_empty (state_in s.jobs j))) NoPlaceFree (Ok tt)
 refusal s (Do (Submit j p f c w)) =
     submit_refusal (fitted_on s.channels c.0) (job_in s.jobs j) (unit_at s.units c.0 (site_of w)) j p f c.0 w
 refusal s (Do (Start c)) =
     first (not (configured s.channels c.0)) OutOfRange
     (first (not (is_idle (motion_on s c.0))) ChannelBusy
     (first (is_none (find (startable s c.0) s.queue)) NothingStartable
-    Granted))
+    (Ok tt)))
 refusal s (Do (Complete c how)) =
     first (not (configured s.channels c.0)) OutOfRange
     (first (is_idle (motion_on s c.0)) NothingInProgress
     (first (is_wrong (moving_status s (motion_on s c.0)) how) WrongCompletion
-    Granted))
+    (Ok tt)))
 refusal s (Do (End j e)) =
     first (not (ltb j 16)) OutOfRange
     (first (not (is_running (state_in s.jobs j))) NoJob
-    Granted)
+    (Ok tt))
 refusal s (Do (Return j c u)) = return_refusal (fitted_on s.channels c.0) (state_in s.jobs j) (unit_in s.units c.0 u.0) j c.0 u.0
 refusal s (Do (Mark c u m on)) =
-    first (not (ltb c.0 16 && reaches (fitted_on s.channels c.0) (OnUnit u))) OutOfRange Granted
+    first (not (ltb c.0 16 && reaches (fitted_on s.channels c.0) (OnUnit u))) OutOfRange (Ok tt)
 
 -- ---- what an accepted call leaves, and what it answers
 
@@ -443,8 +440,8 @@ pub record Answered : Type 0 where
 
 -- a refused call returns the number alone, and the state stays
 abbrev pub decided : State → Call → Verdict → Answered
-decided s x Granted = record { answer = answer s x; state = accept s x }
-decided s x (Denied n) = record { answer = Refused n; state = s }
+decided s x (Ok u) = record { answer = answer s x; state = accept s x }
+decided s x (Err n) = record { answer = Refused n; state = s }
 
 unfoldable pub step : State → Call → Answered
 step s x = decided s x (refusal s x)

@@ -1,5 +1,6 @@
 -- The state that the rules speak of, how it is read, and the stores that change one part of it.
-use Rattle.std.specs.Prelude.{ℕ, ◌+◌, ◌*◌, ◌/◌, ◌%◌, Bool, true, false, not, cond, ◌&&◌, ◌||◌, List, [], ◌∷◌, ◌++◌, map, length, get_or, set, ltb, leb, eqb}
+use Rattle.std.specs.Prelude.{Option, Result, ℕ, ◌+◌, ◌*◌, ◌/◌, ◌%◌, Bool, true, false, not, cond, ◌&&◌, ◌||◌, List, [], ◌∷◌, ◌++◌, map, length, get_or, set, ltb, leb, eqb, None, Some}
+use Rattle.numbers.specs.declared.Refusal.{Refusal}
 use Rattle.numbers.specs.Kinds.{is_drum}
 use Rattle.functions.specs.Legal.{legal_of}
 use Rattle.units.specs.State.{unit_in, unit_set, is_returning, assignable, fresh_unit}
@@ -7,7 +8,6 @@ use Rattle.units.specs.declared.Holder.{Holder}
 use Rattle.units.specs.declared.Holder.TheVariants.{Free, Held, Returning}
 use Rattle.units.specs.declared.Unit.{Unit as UnitState}
 use Rattle.channels.specs.declared.Fitted.{Fitted}
-use Rattle.channels.specs.declared.Fitted.TheVariants.{Nothing, With}
 use Rattle.channels.specs.declared.Channel.{Channel}
 use Rattle.packets.specs.declared.Status.{Status}
 use Rattle.packets.specs.declared.Status.TheVariants.{Blank, Listed, InProgress, Stopping, Ended}
@@ -19,11 +19,25 @@ use Rattle.packets.specs.declared.JobState.TheVariants.{Empty, Running, ClosingN
 use Rattle.packets.specs.declared.Blocks.{Blocks}
 use Rattle.packets.specs.declared.Core.{Core}
 use Rattle.packets.specs.declared.Job.{Job}
-use Rattle.packets.specs.declared.Motion.{Motion}
-use Rattle.packets.specs.declared.Motion.TheVariants.{Idle, Busy}
 use Rattle.packets.specs.declared.Carrier.{Carrier}
 use Rattle.packets.specs.declared.Assignment.{Assignment}
 use Rattle.numbers.specs.Elements.{keep, any, map_from}
+
+-- what a channel has: nothing, or a kind with its n
+abbrev pub Fitting : Type 0
+Fitting = Option Fitted
+
+-- whether a call is refused, and with which number
+abbrev pub Verdict : Type 0
+Verdict = Result (Unit {0}) Refusal
+
+-- the oldest packet of a list that can start, as its entry
+abbrev pub Found : Type 0
+Found = Option ℕ
+
+-- what moves on a channel: nothing, or the packet of a place, as place and packet
+abbrev pub Motion : Type 0
+Motion = Option (ℕ × ℕ)
 
 -- what each channel has, the codes that set interlock (a word, bit k for code k), the units, the places, the listed
 -- packets of all channels in order of submission (a channel's request list is its part of it), and what moves on each
@@ -39,29 +53,29 @@ pub record State : Type 0 where
 -- ---- channels
 
 -- what channel c has; there is none past 15
-unfoldable pub fitted_on : List Channel → ℕ → Fitted
-fitted_on channels c = (get_or channels c (record { has = Nothing })).has
+unfoldable pub fitted_on : List Channel → ℕ → Fitting
+fitted_on channels c = (get_or channels c (record { has = None })).has
 
 -- the drum, of which there are words and no units
-abbrev pub is_drum_of : Fitted → Bool
-is_drum_of Nothing = false
-is_drum_of (With kind n) = is_drum kind
+abbrev pub is_drum_of : Fitting → Bool
+is_drum_of None = false
+is_drum_of (Some on) = is_drum on.kind
 
 unfoldable pub drum_on : List Channel → ℕ → Bool
 drum_on channels c = is_drum_of (fitted_on channels c)
 
 -- a channel that is there
-abbrev pub is_there_of : Fitted → Bool
-is_there_of Nothing = false
-is_there_of (With kind n) = true
+abbrev pub is_there_of : Fitting → Bool
+is_there_of None = false
+is_there_of (Some on) = true
 
 unfoldable pub configured : List Channel → ℕ → Bool
 configured channels c = ltb c 16 && is_there_of (fitted_on channels c)
 
 -- a function is legal for the kind of what the channel has
-abbrev pub legal_for : Fitted → ℕ → Bool
-legal_for Nothing f = false
-legal_for (With kind n) f = legal_of kind f
+abbrev pub legal_for : Fitting → ℕ → Bool
+legal_for None f = false
+legal_for (Some on) f = legal_of on.kind f
 
 -- ---- a listed packet, as one number
 
@@ -256,22 +270,22 @@ abbrev pub carrying : Motion → Carrier
 carrying m = record { motion = m }
 
 abbrev pub motion_on : State → ℕ → Motion
-motion_on s c = (get_or s.moving c (carrying Idle)).motion
+motion_on s c = (get_or s.moving c (carrying None)).motion
 
 -- nothing moves; what is no packet of the cell's 16 places is nothing
 abbrev pub is_idle : Motion → Bool
-is_idle Idle = true
-is_idle (Busy j p) = not (ltb j 16 && ltb p 16)
+is_idle None = true
+is_idle (Some (j, p)) = not (ltb j 16 && ltb p 16)
 
 -- the status of what moves
 abbrev pub moving_status : State → Motion → Status
-moving_status s Idle = Blank
-moving_status s (Busy j p) = (packet_in s.jobs j p).status
+moving_status s None = Blank
+moving_status s (Some (j, p)) = (packet_in s.jobs j p).status
 
 -- a packet of the job in place j moves
 abbrev pub moves : ℕ → Motion → Bool
-moves j Idle = false
-moves j (Busy k p) = eqb k j
+moves j None = false
+moves j (Some (k, p)) = eqb k j
 
 abbrev pub any_moves : ℕ → List Carrier → Bool
 any_moves j moving = any (λ (m : Carrier). moves j m.motion) moving

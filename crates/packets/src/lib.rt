@@ -6,7 +6,7 @@ use numbers::{ChannelNumber, Refusal, UnitNumber};
 use units::{Mark, Units};
 
 // A packet is blank, listed, in progress, stopping or ended with a code.
-#[derive(Clone, Copy)]
+#[derive(Clone, Copy, PartialEq, Eq)]
 pub enum Status {
     Blank,
     Listed,
@@ -16,7 +16,7 @@ pub enum Status {
 }
 
 // Where on its channel a packet is: at a unit, or on the drum channel at an address.
-#[derive(Clone, Copy)]
+#[derive(Clone, Copy, PartialEq, Eq)]
 pub enum Site {
     AtUnit(UnitNumber),
     AtAddress(u32),
@@ -32,7 +32,7 @@ pub struct Packet {
 }
 
 // A place is empty, or its job runs, or is closing after a normal end or an end in error.
-#[derive(Clone, Copy)]
+#[derive(Clone, Copy, PartialEq, Eq)]
 pub enum JobState {
     Empty,
     Running,
@@ -71,16 +71,10 @@ pub struct RequestList {
     pub count: usize,
 }
 
-// What moves on a channel: nothing, or the packet of a place.
-#[derive(Clone, Copy)]
-pub enum Motion {
-    Idle,
-    Busy(u8, u8),
-}
-
+// What moves on a channel: nothing, or the packet of a place, as place and packet.
 #[derive(Clone, Copy)]
 pub struct Carrier {
-    pub motion: Motion,
+    pub motion: Option<(u8, u8)>,
 }
 
 // The request lists: what each channel has, the codes that set interlock, the places, the list, what moves on each
@@ -174,20 +168,6 @@ pub enum Answer {
 pub struct Acted {
     pub lists: Lists,
     pub answer: Answer,
-}
-
-// Whether a call is refused.
-#[derive(Clone, Copy)]
-pub enum Verdict {
-    Granted,
-    Denied(Refusal),
-}
-
-// The oldest packet of a list that can start.
-#[derive(Clone, Copy)]
-pub enum Found {
-    At(u8),
-    Nowhere,
 }
 
 // A change of status that a call makes to several packets of one job. A failure that sets interlock, or 07, on a unit:

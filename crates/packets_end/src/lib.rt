@@ -13,13 +13,7 @@ use packets::{Aim, Carrier, Ending, How, Job, JobState, Leaving, Packet, Site, S
 fn is_stopping(status: Status) -> bool
     ensures { result ≡ is_stopping status }
 {
-    match status {
-        Status::Blank => false,
-        Status::Listed => false,
-        Status::InProgress => false,
-        Status::Stopping => true,
-        Status::Ended(_) => false,
-    }
+    status == Status::Stopping
 }
 
 // Cut for a packet not stopping; failure code 00, 01, 16 octal, 17 octal or over 77 octal.
@@ -29,21 +23,7 @@ pub fn is_wrong(status: Status, how: How) -> bool
     match how {
         How::Full => false,
         How::Cut => !is_stopping(status),
-        How::Failed(k) => {
-            if k == 0 {
-                return true;
-            }
-            if k == 1 {
-                return true;
-            }
-            if k == 0o16 {
-                return true;
-            }
-            if k == 0o17 {
-                return true;
-            }
-            0o77 < k
-        }
+        How::Failed(k) => matches!(k, 0 | 1 | 0o16 | 0o17) || 0o77 < k,
     }
 }
 
@@ -62,24 +42,14 @@ fn code_for(how: How) -> u8
 fn is_trouble(codes: u64, how: How) -> bool
     ensures { result ≡ is_trouble codes how }
 {
-    match how {
-        How::Full => false,
-        How::Cut => false,
-        How::Failed(k) => channels::sets_interlock(codes, k),
-    }
+    matches!(how, How::Failed(k) if channels::sets_interlock(codes, k))
 }
 
 // Whether a completion is such a failure on a unit other than the drum, and so sets its interlock.
 pub fn is_breaking(codes: u64, how: How, at: Site) -> bool
     ensures { result ≡ is_trouble codes how && is_unit at }
 {
-    if !is_trouble(codes, how) {
-        return false;
-    }
-    match at {
-        Site::AtUnit(_) => true,
-        Site::AtAddress(_) => false,
-    }
+    is_trouble(codes, how) && matches!(at, Site::AtUnit(_))
 }
 
 // The packets after a failure that sets interlock where one of them is: the unit's listed ones end with 01.
@@ -101,30 +71,20 @@ fn packets_over(ps: [Packet; 16], p: u8, how: How, c: ChannelNumber, breaking: b
     if !breaking {
         return ended;
     }
-    let q = packets_job::packet_in(ps, p);
-    let at = q.at;
-    broken(ended, c, at)
+    broken(ended, c, packets_job::packet_in(ps, p).at)
 }
 
 fn is_closing(state: JobState) -> bool
     ensures { result ≡ is_closing state }
 {
-    match state {
-        JobState::Empty => false,
-        JobState::Running => false,
-        JobState::ClosingNormal => true,
-        JobState::ClosingError => true,
-    }
+    matches!(state, JobState::ClosingNormal | JobState::ClosingError)
 }
 
 // Whether a job in place j is closing and nothing of it moves.
 fn is_done(state: JobState, moving: [Carrier; 16], j: u8) -> bool
     ensures { result ≡ is_closing state && not (any_moves j moving) }
 {
-    if !is_closing(state) {
-        return false;
-    }
-    !packets_channels::any_moves(moving, j)
+    is_closing(state) && !packets_channels::any_moves(moving, j)
 }
 
 // After which end a closing job's facilities return.
@@ -132,8 +92,7 @@ fn leaving_as(state: JobState) -> Leaving
     ensures { result ≡ leaving_as state }
 {
     match state {
-        JobState::Empty => Leaving::Stays,
-        JobState::Running => Leaving::Stays,
+        JobState::Empty | JobState::Running => Leaving::Stays,
         JobState::ClosingNormal => Leaving::AfterNormal,
         JobState::ClosingError => Leaving::AfterError,
     }
@@ -143,12 +102,11 @@ fn leaving_as(state: JobState) -> Leaving
 fn ending(job: Job, moving: [Carrier; 16], j: u8) -> Ending
     ensures { result ≡ ending_of job moving j }
 {
-    let state = job.state;
-    if is_done(state, moving, j) {
+    if is_done(job.state, moving, j) {
         return Ending {
             job: packets_job::in_state(job, JobState::Empty),
             done: true,
-            leaving: leaving_as(state),
+            leaving: leaving_as(job.state),
         };
     }
     Ending {
@@ -170,11 +128,8 @@ pub fn over(
 ) -> Ending
     ensures { result ≡ ending_of (over_job job p how c.0 breaking) moving j }
 {
-    let ps = job.packets;
-    let qs = packets_over(ps, p, how, c, breaking);
-    let mut next = job;
-    next.packets = qs;
-    ending(next, moving, j)
+    let packets = packets_over(job.packets, p, how, c, breaking);
+    ending(Job { packets, ..job }, moving, j)
 }
 
 // Normally or in error.
@@ -182,18 +137,25 @@ fn closing(in_error: bool) -> JobState
     ensures { result ≡ closing in_error }
 {
     if in_error {
-        return JobState::ClosingError;
+        JobState::ClosingError
+    } else {
+        JobState::ClosingNormal
     }
-    JobState::ClosingNormal
 }
 
 // The job in place j after its end: closing, its listed packets ended with 16 octal, those in progress stopping.
 pub fn closed(job: Job, in_error: bool, moving: [Carrier; 16], j: u8) -> Ending
     ensures { result ≡ ending_of (closed_job job in_error) moving j }
 {
-    let ps = job.packets;
-    let qs = packets_job::all_changed(ps, Aim::Closing);
-    let mut cut = job;
-    cut.packets = qs;
-    ending(packets_job::in_state(cut, closing(in_error)), moving, j)
+    let packets = packets_job::all_changed(job.packets, Aim::Closing);
+    let state = closing(in_error);
+    ending(
+        Job {
+            state,
+            packets,
+            ..job
+        },
+        moving,
+        j,
+    )
 }

@@ -1,6 +1,7 @@
 -- A packet that is listed, in progress or stopping on the drum is at an address of its job's area: its submission
 -- would have been refused otherwise, and neither its address nor the area changes until it has ended. Assumes
 -- nothing.
+use Rattle.std.proofs.Common.{Ok}
 use Prim.Native.Nat.{ℕ, ◌+◌, ◌<◌}
 use mathlib.Core.Path.{◌≡◌, refl, sym, ap, ◌∙◌}
 use mathlib.Core.Bool.{Bool, true, false, cond, ◌&&◌, ◌||◌}
@@ -64,7 +65,6 @@ use Rattle.packets.specs.declared.Site.TheVariants.{AtAddress}
 use Rattle.packets.specs.declared.Spot.{Spot}
 use Rattle.packets.specs.declared.Spot.TheVariants.{OnDrum, OnUnit}
 use Rattle.packets.specs.declared.Status.TheVariants.{Ended, InProgress, Listed}
-use Rattle.packets.specs.declared.Verdict.TheVariants.{Granted}
 use Rattle.packets_given.specs.Given.{AtItsArea, OnItsOwnWords}
 use Rattle.packets_given.proofs.SameLaws.{Share, same-begun, same-closed, same-finished, same-submit, same-swept, share}
 
@@ -110,7 +110,7 @@ own-words : (job : Job) (holder : Holder) (j f : ℕ) (w : Spot) → is_own job 
 own-words job holder j f (OnUnit u) o n x e = absurd (let z : ◌≡◌ {A = ℕ} 0 1 = cc in omega arith)
 own-words job holder j f (OnDrum y h) o n x e = let z : y ≡ x = cc in rw (← z) (rw n at o)
 
-module _ (s : State) (I : Inv s) (j p f c : ℕ) (w : Spot) (r : refusal s (Submit j p f c w) ≡ Granted) where
+module _ (s : State) (I : Inv s) (j p f c : ℕ) (w : Spot) (r : refusal s (Submit j p f c w) ≡ Ok tt) where
   abbrev after : State
   after = submitted s j p f c w
 
@@ -126,7 +126,7 @@ module _ (s : State) (I : Inv s) (j p f c : ℕ) (w : Spot) (r : refusal s (Subm
       area_same (job_in after.jobs j) (job_in s.jobs j) x ((same-submit s j p f c w).shares j)
       ∙ own-words (job_in s.jobs j) (unit_at s.units c (site_of w)).holder j f w k.owned o x (sym z ∙ d)
 
-accept-good : (s : State) → Inv s → AtItsArea s → (x : Call) → refusal s x ≡ Granted → AtItsArea (accept s x)
+accept-good : (s : State) → Inv s → AtItsArea s → (x : Call) → refusal s x ≡ Ok tt → AtItsArea (accept s x)
 unfolding accept
 accept-good s I K (Take j asg) r i n b x d =
     let inside : j < length s.jobs = rw I.places (assigns-to s j asg r).0 in

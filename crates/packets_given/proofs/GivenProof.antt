@@ -2,6 +2,7 @@
 -- what it wants and touches no unit of another place, a return of all facilities frees the units of place j alone, and
 -- of the other calls only a return of one unit and the completion that it waits for change what a job holds: that unit.
 -- Assumes nothing.
+use Rattle.std.proofs.Common.{Err, Ok}
 use Prim.Native.Nat.{ℕ, ◌<◌}
 use mathlib.Core.Path.{◌≡◌, refl, sym, ap, ◌∙◌, subst}
 use mathlib.Core.Bool.{Bool, true, false, not, cond, ◌&&◌}
@@ -54,8 +55,7 @@ use Rattle.packets.proofs.UnitLaws.{release-square, take-read, take-square}
 use Rattle.packets.specs.declared.Answer.TheVariants.{Done, Refused}
 use Rattle.packets.specs.declared.Assignment.{Assignment}
 use Rattle.packets.specs.declared.JobState.TheVariants.{Empty, Running}
-use Rattle.packets.specs.declared.Verdict.{Verdict}
-use Rattle.packets.specs.declared.Verdict.TheVariants.{Denied, Granted}
+use Rattle.packets.specs.State.{Verdict}
 use Rattle.packets_given.specs.Given.{
   Heads,
   HoldsWhatItWasGiven,
@@ -203,7 +203,7 @@ module _ (given : ℕ → Option Assignment) (asked : ℕ → Heads) (s : State)
 
 -- ---- every call
 
-accept-kept : (given : ℕ → Option Assignment) (asked : ℕ → Heads) (s : State) → Inv s → (x : Call) → refusal s x ≡ Granted → Wants s x
+accept-kept : (given : ℕ → Option Assignment) (asked : ℕ → Heads) (s : State) → Inv s → (x : Call) → refusal s x ≡ Ok tt → Wants s x
     → Kept given asked s
     → Kept (λ (i : ℕ). taken_by i (given i) x (answer s x)) (λ (i : ℕ). asked_by i (asked i) x (answer s x)) (accept s x)
 unfolding accept answer taken_by asked_by
@@ -230,15 +230,15 @@ accept-kept given asked s I (Do (Act'.Mark c u m on)) r k K =
     kept_same given asked s (marked s c.0 u.0 m on) (same-marked s c.0 u.0 m on) K
 
 step_kept : (given : ℕ → Option Assignment) (asked : ℕ → Heads) (s : State) → Inv s → (x : Call)
-    → (refusal s x ≡ Granted → Wants s x) → Kept given asked s
+    → (refusal s x ≡ Ok tt → Wants s x) → Kept given asked s
     → Kept (λ (i : ℕ). taken_by i (given i) x (step s x).answer) (λ (i : ℕ). asked_by i (asked i) x (step s x).answer) (step s x).state
 step_kept given asked s I x f K = unfold step in go (refusal s x) refl
   where
     go : (v : Verdict) → refusal s x ≡ v
         → Kept (λ (i : ℕ). taken_by i (given i) x (decided s x v).answer) (λ (i : ℕ). asked_by i (asked i) x (decided s x v).answer)
         (decided s x v).state
-    go Granted r = accept-kept given asked s I x r (f r) K
-    go (Denied n) r =
+    go (Ok u) r = accept-kept given asked s I x r (f r) K
+    go (Err n) r =
         record {
           square = K.square;
           live = λ i a. let k = K.live i a in (

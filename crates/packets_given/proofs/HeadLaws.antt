@@ -1,6 +1,7 @@
 -- What a place has of the units, as its calls tell it: a unit whose return was not asked for is its own exactly when it
 -- was given, one whose return was asked for is its own only while it is being returned. What a change of one unit leaves
 -- of that, and that it is what the page says. Assumes nothing.
+use Rattle.std.proofs.Common.{None, Some}
 use Prim.Native.Nat.{ℕ, ◌<◌}
 use mathlib.Core.Path.{◌≡◌, refl, sym, ap, ◌∙◌}
 use mathlib.Core.Bool.{true, false, cond, ◌&&◌}
@@ -28,8 +29,7 @@ use Rattle.packets.proofs.ByNumber.{Return}
 use Rattle.packets.specs.State.{State, freed_at, held_by, is_empty, job_in, motion_on, packet_in, state_in, wanted, with_holder}
 use Rattle.packets.specs.declared.Answer.TheVariants.{Done}
 use Rattle.packets.specs.declared.Assignment.{Assignment}
-use Rattle.packets.specs.declared.Motion.{Motion}
-use Rattle.packets.specs.declared.Motion.TheVariants.{Busy, Idle}
+use Rattle.packets.specs.State.{Motion}
 use Rattle.packets.specs.declared.Site.{Site}
 use Rattle.packets.specs.declared.Site.TheVariants.{AtAddress, AtUnit}
 use Rattle.packets_given.specs.Given.{Heads, HoldsExactly, asked_by, asking, has_returned, is_on, under_way}
@@ -211,7 +211,7 @@ module _ (s : State) (I : Inv s) (W : Waits s) (i c u : ℕ) where
   held-moves t r =
       let w = W c u r in
       let x : w.place ≡ i = held-once (unit_in s.units c u).holder w.place i w.held t in
-      let m : motion_on s c ≡ Busy i w.packet = rw x at w.moves in
+      let m : motion_on s c ≡ Some (i, w.packet) = rw x at w.moves in
       let y : (packet_in s.jobs i w.packet).at ≡ unit_site u = rw x at w.at in
       rw (m, eqb-self i) (and_both _ _ (eq-eqb _ c (I.motion c i w.packet m).channel) (same-eq _ (unit_site u) y))
 
@@ -219,10 +219,10 @@ module _ (s : State) (I : Inv s) (W : Waits s) (i c u : ℕ) where
   moves-held t = by-motion (motion_on s c) refl t
     where
       by-motion : (m : Motion) → motion_on s c ≡ m → moves_at s i c (unit_site u) m ≡ true → held_by (unit_in s.units c u).holder i ≡ true
-      by-motion Idle e t = never {b = false} t refl
-      by-motion (Busy j p) e t =
+      by-motion None e t = never {b = false} t refl
+      by-motion (Some (j, p)) e t =
           let x : j ≡ i = eqb-true j i (and_left (eqb j i) _ t) in
-          let e' : motion_on s c ≡ Busy i p = rw x at e in
+          let e' : motion_on s c ≡ Some (i, p) = rw x at e in
           let y = and_right (eqb j i) (is_at c (unit_site u) (packet_in s.jobs i p)) t in
           let q = packet_in s.jobs i p in
           let o : OwnedAt s i c (unit_site u) =

@@ -1,5 +1,6 @@
 -- Only a taking and a return change which places are live, their drum areas and core, and who holds a unit: every
 -- other store leaves all that as it is, and so do the calls, up to a return. Assumes nothing.
+use Rattle.std.proofs.Common.{None}
 use Prim.Native.Nat.{ℕ}
 use mathlib.Core.Path.{◌≡◌, refl, sym, ap, ◌∙◌, subst}
 use mathlib.Core.Bool.{Bool, true, false, ◌&&◌}
@@ -25,7 +26,6 @@ use Rattle.packets.specs.declared.Core.{Core}
 use Rattle.packets.specs.declared.How.{How}
 use Rattle.packets.specs.declared.Job.{Job}
 use Rattle.packets.specs.declared.JobState.{JobState}
-use Rattle.packets.specs.declared.Motion.TheVariants.{Idle}
 use Rattle.packets.specs.declared.Packet.{Packet}
 use Rattle.packets.specs.declared.Site.{Site}
 use Rattle.packets.specs.declared.Site.TheVariants.{AtAddress, AtUnit}
@@ -135,7 +135,7 @@ same-finished s c how j p =
     let q = with_status (packet_in s.jobs j p) (Ended (code_for how)) in
     let a = (packet_in s.jobs j p).at in
     let s₁ = over s c j p (code_for how) in
-    let o : Same s s₁ = same-trans (same_rest s (move s c Idle) refl refl) (same_store (move s c Idle) j p q) in
+    let o : Same s s₁ = same-trans (same_rest s (move s c None) refl refl) (same_store (move s c None) j p q) in
     by_bool (is_trouble s.codes how && is_unit a)
     (λ e. rw e (same-trans o (same-trans (same-swept s₁ j (is_at c a) failed) (same-lock (sweep s₁ j (is_at c a) failed) c a true))))
     (λ e. rw e o)

@@ -1,5 +1,6 @@
 -- WHAT WAS TOLD TO BE UNDER WAY is what moves: a start answers it, no call but a completion on its channel changes it, and
 -- that ends it. So the state agrees with what a job has returned by the answers. Assumes nothing.
+use Rattle.std.proofs.Common.{Err, None, Ok, Some}
 use Prim.Native.Nat.{ℕ}
 use mathlib.Core.Path.{◌≡◌, refl, sym, ap, subst, ◌∙◌}
 use mathlib.Core.Bool.{true}
@@ -28,29 +29,27 @@ use Rattle.packets.specs.declared.Act.TheVariants as Act'
 use Rattle.packets.specs.declared.Begun.{Begun}
 use Rattle.packets.specs.declared.Carrier.{Carrier}
 use Rattle.packets.specs.declared.How.{How}
-use Rattle.packets.specs.declared.Motion.TheVariants.{Busy, Idle}
 use Rattle.packets.specs.declared.Packet.{Packet}
-use Rattle.packets.specs.declared.Verdict.{Verdict}
-use Rattle.packets.specs.declared.Verdict.TheVariants.{Denied, Granted}
+use Rattle.packets.specs.State.{Verdict}
 use Rattle.packets_given.specs.Given.{UnderWay, is_on, moved_by, under_way, way_after}
 use Rattle.packets_given.proofs.Reckoning.{reckoned-append, refused-moves}
 
 -- channel c carries exactly this
 abbrev Carries : State → ℕ → Option Begun → Type 0
-Carries s c none = motion_on s c ≡ Idle
-Carries s c (some b) = (motion_on s c ≡ Busy b.place b.packet) × ((packet_in s.jobs b.place b.packet).at ≡ b.at)
+Carries s c none = motion_on s c ≡ None
+Carries s c (some b) = (motion_on s c ≡ Some (b.place, b.packet)) × ((packet_in s.jobs b.place b.packet).at ≡ b.at)
 
 -- ---- one call
 
 module _ (s : State) (I : Inv s) where
   -- nothing starts or completes on the channel
-  still : (x : Call) → refusal s x ≡ Granted → (c : ℕ) → (x ≡ Start c → ⊥) → ((how : How) → x ≡ Complete c how → ⊥)
+  still : (x : Call) → refusal s x ≡ Ok tt → (c : ℕ) → (x ≡ Start c → ⊥) → ((how : How) → x ≡ Complete c how → ⊥)
       → (way : Option Begun) → Carries s c way → Carries (accept s x) c way
   still x r c n o none h = motion-kept s I x r c n o ∙ h
   still x r c n o (some b) h = (motion-kept s I x r c n o ∙ h.0, at-kept s I x r c b.place b.packet h.0 ∙ h.1)
 
   -- a start answers what its channel then carries
-  starts : (d : ChannelNumber) → refusal s (Do (Act'.Start d)) ≡ Granted → (way : Option Begun)
+  starts : (d : ChannelNumber) → refusal s (Do (Act'.Start d)) ≡ Ok tt → (way : Option Begun)
       → Carries (accept s (Do (Act'.Start d))) d.0 (way_after (answer s (Do (Act'.Start d))) way)
   unfolding accept answer
   starts d r way =
@@ -59,13 +58,13 @@ module _ (s : State) (I : Inv s) where
       let e = y.0 in
       let q = find-holds (EntryOk s) (startable s d.0) s.queue e I.queued y.1 in
       let carries : Carries (begun s d.0 e) d.0 (way_after (begins s (some e)) way) = (
-        motion-move s d.0 (Busy (place_of e) (packet_of e)) d.0 (rw I.channels m.0) ∙ rw (eqb-self d.0),
+        motion-move s d.0 (Some (place_of e, packet_of e)) d.0 (rw I.channels m.0) ∙ rw (eqb-self d.0),
         ap (λ (o : Packet). o.at) (start-at s I d.0 m.0 e q.0 (startable-on s d.0 e q.1)),
       ) in
       rw y.1 carries
 
   -- a completion leaves nothing there
-  completes-there : (d : ChannelNumber) (how : How) → refusal s (Do (Act'.Complete d how)) ≡ Granted → (way : Option Begun)
+  completes-there : (d : ChannelNumber) (how : How) → refusal s (Do (Act'.Complete d how)) ≡ Ok tt → (way : Option Begun)
       → Carries (accept s (Do (Act'.Complete d how))) d.0 (way_after (answer s (Do (Act'.Complete d how))) way)
   unfolding accept answer
   completes-there d how r way =
@@ -73,7 +72,7 @@ module _ (s : State) (I : Inv s) where
       let y = busy-of (motion_on s d.0) m.1 in
       rw y.2 (completed-idle s I d.0 m.0 how y.0 y.1)
 
-  accept-carries : (t : UnderWay) → ((c : ℕ) → Carries s c (t c)) → (x : Call) → refusal s x ≡ Granted
+  accept-carries : (t : UnderWay) → ((c : ℕ) → Carries s c (t c)) → (x : Call) → refusal s x ≡ Ok tt
       → (c : ℕ) → Carries (accept s x) c (moved_by t x (answer s x) c)
   unfolding moved_by
   accept-carries t K (Take i asg) r c =
@@ -107,13 +106,13 @@ module _ (s : State) (I : Inv s) where
   step-carries t K x c = unfold step in go (refusal s x) refl
     where
       go : (v : Verdict) → refusal s x ≡ v → Carries (decided s x v).state c (moved_by t x (decided s x v).answer c)
-      go Granted r = accept-carries t K x r c
-      go (Denied n) r = rw (refused-moves t x n c) (K c)
+      go (Ok u) r = accept-carries t K x r c
+      go (Err n) r = rw (refused-moves t x n c) (K c)
 
 -- ---- over a history
 
 begins-carries : (s : State) → Begins s → (c : ℕ) → Carries s c none
-begins-carries s b c = rw b.is (unfold fresh in ap (λ (m : Carrier). m.motion) (get_d-replicate-same 16 c (record { motion = Idle })))
+begins-carries s b c = rw b.is (unfold fresh in ap (λ (m : Carrier). m.motion) (get_d-replicate-same 16 c (record { motion = None })))
 
 told-carries : (l : List Event) (s : State) → Reached l s → (c : ℕ) → Carries s c (under_way l c)
 told-carries l s r =

@@ -28,11 +28,10 @@ fn blank() -> Packet
 pub fn empty() -> Job
     ensures { result ≡ empty_place }
 {
-    let packets = [blank(); 16];
     let none = Blocks { start: 0, count: 0 };
     Job {
         state: JobState::Empty,
-        packets,
+        packets: [blank(); 16],
         from: 0,
         words: 0,
         core: Core { ib: none, db: none },
@@ -43,10 +42,9 @@ pub fn empty() -> Job
 pub fn running(from: u32, words: u32, core: Core) -> Job
     ensures { result ≡ taken_job from words core }
 {
-    let packets = [blank(); 16];
     Job {
         state: JobState::Running,
-        packets,
+        packets: [blank(); 16],
         from,
         words,
         core,
@@ -57,50 +55,28 @@ pub fn running(from: u32, words: u32, core: Core) -> Job
 pub fn is_empty(state: JobState) -> bool
     ensures { result ≡ is_empty state }
 {
-    match state {
-        packets::JobState::Empty => true,
-        packets::JobState::Running => false,
-        packets::JobState::ClosingNormal => false,
-        packets::JobState::ClosingError => false,
-    }
+    state == JobState::Empty
 }
 
 // Whether a job is in a place and runs.
 pub fn is_running(state: JobState) -> bool
     ensures { result ≡ is_running state }
 {
-    match state {
-        JobState::Empty => false,
-        JobState::Running => true,
-        JobState::ClosingNormal => false,
-        JobState::ClosingError => false,
-    }
+    state == JobState::Running
 }
 
 // The job in another state.
 pub fn in_state(job: Job, state: JobState) -> Job
     ensures { result ≡ with_state job state }
 {
-    let packets = job.packets;
-    let core = job.core;
-    Job {
-        state,
-        packets,
-        from: job.from,
-        words: job.words,
-        core,
-    }
+    Job { state, ..job }
 }
 
 // Packet p of a job; blank where a job has none.
 pub fn packet_in(ps: [Packet; 16], p: u8) -> Packet
     ensures { result ≡ get_or ps p blank }
 {
-    let i = p as usize;
-    if 15 < i {
-        return blank();
-    }
-    ps[i]
+    ps.get(p as usize).copied().unwrap_or(blank())
 }
 
 // The packets with packet p now this.
@@ -108,11 +84,9 @@ pub fn with_packet(ps: [Packet; 16], p: u8, q: Packet) -> [Packet; 16]
     ensures { result ≡ set ps p q }
 {
     let mut next = ps;
-    let i = p as usize;
-    if 15 < i {
-        return ps;
+    if p < 16 {
+        next[p as usize] = q;
     }
-    next[i] = q;
     next
 }
 
@@ -120,14 +94,7 @@ pub fn with_packet(ps: [Packet; 16], p: u8, q: Packet) -> [Packet; 16]
 fn with_status(p: Packet, status: Status) -> Packet
     ensures { result ≡ with_status p status }
 {
-    let channel = p.channel;
-    let at = p.at;
-    Packet {
-        status,
-        function: p.function,
-        channel,
-        at,
-    }
+    Packet { status, ..p }
 }
 
 // The packets with packet p in another status.
@@ -142,11 +109,8 @@ fn failed_status(status: Status) -> Status
     ensures { result ≡ failed status }
 {
     match status {
-        Status::Blank => Status::Blank,
         Status::Listed => Status::Ended(1),
-        Status::InProgress => Status::InProgress,
-        Status::Stopping => Status::Stopping,
-        Status::Ended(k) => Status::Ended(k),
+        _ => status,
     }
 }
 
@@ -155,21 +119,9 @@ fn cut_status(status: Status) -> Status
     ensures { result ≡ cut status }
 {
     match status {
-        Status::Blank => Status::Blank,
         Status::Listed => Status::Ended(0o16),
         Status::InProgress => Status::Stopping,
-        Status::Stopping => Status::Stopping,
-        Status::Ended(k) => Status::Ended(k),
-    }
-}
-
-// Whether it is this unit, and no address.
-fn is_unit(at: Site, unit: UnitNumber) -> bool
-    ensures { result ≡ same at (AtUnit unit) }
-{
-    match at {
-        Site::AtUnit(u) => u.0 == unit.0,
-        Site::AtAddress(_) => false,
+        _ => status,
     }
 }
 
@@ -177,34 +129,23 @@ fn is_unit(at: Site, unit: UnitNumber) -> bool
 fn is_between(at: Site, l: u32, h: u32) -> bool
     ensures { result ≡ covers (OnDrum l h) at }
 {
-    match at {
-        Site::AtUnit(_) => false,
-        Site::AtAddress(x) => l <= x && x <= h,
-    }
+    matches!(at, Site::AtAddress(x) if l <= x && x <= h)
 }
 
 // Whether a packet was submitted to a unit of channel c.
 pub fn is_at(p: Packet, c: ChannelNumber, unit: UnitNumber) -> bool
     ensures { result ≡ is_at c.0 (AtUnit unit) p }
 {
-    if p.channel.0 != c.0 {
-        return false;
-    }
-    let at = p.at;
-    is_unit(at, unit)
+    p.channel == c && p.at == Site::AtUnit(unit)
 }
 
 // Whether a 23 to a unit or its return, or a 23 on the drum to the addresses from L to H, is for a packet.
 fn is_aimed(p: Packet, c: ChannelNumber, spot: Spot) -> bool
     ensures { result ≡ aimed c.0 spot p }
 {
-    if p.channel.0 != c.0 {
-        return false;
-    }
-    let at = p.at;
     match spot {
-        Spot::OnUnit(unit) => is_unit(at, unit),
-        Spot::OnDrum(l, h) => is_between(at, l, h),
+        Spot::OnUnit(unit) => is_at(p, c, unit),
+        Spot::OnDrum(l, h) => p.channel == c && is_between(p.at, l, h),
     }
 }
 
@@ -225,8 +166,7 @@ fn changed_status(status: Status, aim: Aim) -> Status
 {
     match aim {
         Aim::Failing(_, _) => failed_status(status),
-        Aim::Cutting(_, _) => cut_status(status),
-        Aim::Closing => cut_status(status),
+        Aim::Cutting(_, _) | Aim::Closing => cut_status(status),
     }
 }
 
@@ -235,8 +175,7 @@ fn changed(p: Packet, aim: Aim) -> Packet
     ensures { result ≡ restatus (test_of aim) (change_of aim) p }
 {
     if is_meant(p, aim) {
-        let status = p.status;
-        return with_status(p, changed_status(status, aim));
+        return with_status(p, changed_status(p.status, aim));
     }
     p
 }
@@ -245,11 +184,5 @@ fn changed(p: Packet, aim: Aim) -> Packet
 pub fn all_changed(ps: [Packet; 16], aim: Aim) -> [Packet; 16]
     ensures { result ≡ map (restatus (test_of aim) (change_of aim)) ps }
 {
-    let mut out = ps;
-    let mut i: usize = 0;
-    while i < 16 {
-        out[i] = changed(out[i], aim);
-        i += 1;
-    }
-    out
+    ps.map(|p| changed(p, aim))
 }

@@ -1,5 +1,6 @@
 -- The list as an array with 0 past its packets: reading it back, keeping what is still listed, and one packet more.
 -- Assumes nothing.
+use Rattle.std.proofs.lemmas.List.{take-take}
 use Prim.Native.Nat.{ℕ, suc, ◌+◌, ◌-◌, ◌≤◌, ◌<◌}
 use mathlib.Core.Path.{◌≡◌, sym, ap, ◌∙◌, subst}
 use mathlib.Core.Bool.{Bool, true, false, cond}
@@ -72,6 +73,12 @@ module _ (f : ℕ → Bool) (old out : List ℕ) (n i : ℕ) (R : Relisting f ol
     where
       step : keep f (take (i + 1) old) ≡ keep f (take i old)
       step = keep-step f old i h ∙ rw t (append-nil (keep f (take i old)))
+
+-- what holds of a part of the list holds of the list
+pub relisting-part : (f : ℕ → Bool) (old out : List ℕ) (m n i : ℕ) → i ≤ n → Relisting f (take n old) out m i → Relisting f old out m i
+relisting-part f old out m n i h R =
+    let e : take i (take n old) ≡ take i old = take-take i n old h in
+    record { size = rw (← e) R.size; few = R.few; is = rw (← e) R.is }
 
 pub relisted-done : (j : ℕ) (ps : List Packet) (old out : List ℕ) (count n i : ℕ) → Relisting (is_kept j ps) old out n i → i ≤ 256
     → i ≡ size_of old count → Relisted j ps old count (record { entries = out; count = n })

@@ -5,6 +5,10 @@ use mathlib.Core.Bool.{Bool, false, not, ◌&&◌}
 use mathlib.Core.List.{List, [], ◌∷◌}
 use lib.ListN.{get_or, replicate}
 use lib.Dec.{eqb}
+use Rattle.std.proofs.Common.{ltb, arith}
+use Rattle.std.proofs.lemmas.Bool.{ltb-true, ltb-false}
+use Rattle.std.proofs.lemmas.List.{get_or_default, get_or_past}
+use Rattle.numbers.proofs.Tests.{by_bool}
 use borrow.Author.Tests.{le-ltb, lt-ltb}
 use Rattle.numbers.proofs.Stores.{get_d-replicate-same}
 use Rattle.units.specs.declared.Unit.{Unit as UnitState}
@@ -60,3 +64,12 @@ row_out units s c h row e =
 pub row-in : (units : List (List UnitState)) (c : ℕ) → c < 16 → (row : List UnitState) → row ≡ get_or units c [] → RowOf units c row
 unfolding unit_in row_in
 row-in units c h row e = record { is = e ∙ rw (lt-ltb c 16 h); locks = λ a. rw e }
+
+pub row-of : (units : List (List UnitState)) → Square units → (c : ℕ) (row : List UnitState)
+    → row ≡ get_or units c (replicate 16 (fresh_unit false)) → RowOf units c row
+row-of units s c row e =
+    by_bool (ltb c 16)
+    (λ t. let h = ltb-true c 16 t in
+    row-in units c h row (e ∙ get_or_default units c (replicate 16 (fresh_unit false)) [] (omega (arith, s.channels))))
+    (λ f. let h = ltb-false c 16 f in
+    row_out units s c (omega arith) row (e ∙ get_or_past units c (replicate 16 (fresh_unit false)) (omega (arith, s.channels))))

@@ -35,6 +35,7 @@ pub fn empty() -> RequestList
 }
 
 // How many of its entries a list with this count has; none where they are over 256, which no list of the cell has.
+// Stays: `Sized` speaks of any slice beside a count, and a RequestList in their place is narrower.
 pub fn size_of(entries: &[u8], count: usize) -> usize
     ensures { Sized entries.now count result }
 {
@@ -42,64 +43,45 @@ pub fn size_of(entries: &[u8], count: usize) -> usize
     if 256 < most {
         return 0;
     }
-    if most < count {
-        return most;
-    }
-    count
+    count.min(most)
 }
 
 // An entry of a list; 0 past its end. The entries are lent: none but this one is copied.
 pub fn entry_at(entries: &[u8], k: usize) -> u8
     ensures { result ≡ get_or entries.now k 0 }
 {
-    if entries.len() <= k {
-        return 0;
-    }
-    entries[k]
+    entries.get(k).copied().unwrap_or(0)
 }
 
 fn is_listed(status: Status) -> bool
     ensures { result ≡ is_listed status }
 {
-    match status {
-        Status::Blank => false,
-        Status::Listed => true,
-        Status::InProgress => false,
-        Status::Stopping => false,
-        Status::Ended(_) => false,
-    }
+    status == Status::Listed
 }
 
 // Whether an entry stays in the list after a change in place j, if its packet there has this status.
+#[tactic(auto, unfolding(packets::specs::State::place_of))]
 fn stays(e: u8, j: u8, status: Status) -> bool
     ensures { result ≡ not (eqb (place_of e) j) || is_listed status }
 {
-    if e / 16 != j {
-        return true;
-    }
-    is_listed(status)
+    e / 16 != j || is_listed(status)
 }
 
 // The list of these entries and this count without those packets of the job, which is in place j, that are no longer
 // listed. The entries are lent, so that they are not copied before they are gone through.
+// Stays: `Relisted` speaks of any slice beside a count, and a RequestList in their place is narrower.
 pub fn relisted(job: Job, j: u8, old: &[u8], count: usize) -> RequestList
     ensures { Relisted j job.packets old.now count result }
 {
-    let ps = job.packets;
     let end = size_of(old, count);
     let mut entries = no_entries();
     let mut kept: usize = 0;
-    let mut i: usize = 0;
-    while i < end {
-        let e = old[i];
-        let number = number_of(e);
-        let p = ps[number];
-        let status = p.status;
-        if stays(e, j, status) {
+    for &e in &old[..end] {
+        let p = job.packets[number_of(e)];
+        if stays(e, j, p.status) {
             entries[kept] = e;
             kept += 1;
         }
-        i += 1;
     }
     RequestList {
         entries,
@@ -112,74 +94,54 @@ fn with_entry(list: RequestList, e: u8) -> RequestList
     requires { Tidy list }
     ensures { result ≡ padded (enlisted (list_of list) e) }
 {
-    let count = list.count;
-    if 255 < count {
-        return list;
-    }
     let mut next = list;
-    next.entries[count] = e;
-    next.count = count + 1;
+    if next.count < 256 {
+        next.entries[next.count] = e;
+        next.count += 1;
+    }
     next
 }
 
 // The same, and with one packet more, the youngest, where there is room.
+// Stays: its clause speaks of any slice beside a count, by `listed`, and a RequestList in their place is narrower.
 pub fn relisted_with(job: Job, j: u8, old: &[u8], count: usize, e: u8) -> RequestList
     ensures { result ≡ padded (enlisted (relist j job.packets (listed old.now count)) e) }
 {
-    let left = relisted(job, j, old, count);
-    with_entry(left, e)
+    with_entry(relisted(job, j, old, count), e)
 }
 
 // The interlock of a unit of a channel; none where the channel has no such unit.
 fn lock_in(row: [Unit; 16], u: UnitNumber) -> bool
     ensures { result ≡ lock_in row u.0 }
 {
-    let i = u.0 as usize;
-    if 15 < i {
-        return false;
-    }
-    let unit = row[i];
-    unit.interlock
+    row.get(u.0 as usize).is_some_and(|unit| unit.interlock)
 }
 
 // The interlock where a packet is; the drum has none.
 fn lock_at(row: [Unit; 16], at: Site) -> bool
     ensures { result ≡ lock_at row at }
 {
-    match at {
-        Site::AtUnit(u) => lock_in(row, u),
-        Site::AtAddress(_) => false,
-    }
+    matches!(at, Site::AtUnit(u) if lock_in(row, u))
 }
 
 // Whether a listed packet can start on channel c: its unit has no interlock.
 fn is_startable(p: Packet, row: [Unit; 16], c: ChannelNumber) -> bool
     ensures { result ≡ can_start row c.0 p }
 {
-    if p.channel.0 != c.0 {
-        return false;
-    }
-    let at = p.at;
-    !lock_at(row, at)
+    p.channel == c && !lock_at(row, p.at)
 }
 
 // Whether the packet that an entry names, of the job in its place, can start on channel c, which has these units.
 pub fn can_start(job: Job, e: u8, row: [Unit; 16], c: ChannelNumber) -> bool
     ensures { result ≡ can_start row c.0 (get_or job.packets (packet_of e) blank) }
 {
-    let number = number_of(e);
-    let p = job.packets[number];
-    is_startable(p, row, c)
+    is_startable(job.packets[number_of(e)], row, c)
 }
 
 // The units of channel c; units without interlock where the cell has no such channel.
 pub fn row_of(units: Units, c: ChannelNumber) -> [Unit; 16]
     ensures { RowOf units.of c.0 result }
 {
-    let grid = units::grid_of(units);
-    let i = c.0 as usize;
-    if 15 < i {
-        return [units::fresh_unit(false); 16];
-    }
-    grid[i]
+    let row = units::grid_of(units).get(c.0 as usize).copied();
+    row.unwrap_or([units::fresh_unit(false); 16])
 }

@@ -1,16 +1,14 @@
 // Submission, on the parts that it reads and changes: whether it is refused, and the job then.
 #![tactic(auto)]
 
-ghost use Rattle.std.specs.Prelude.{◌≡◌, not, ◌&&◌};
-ghost use Rattle.numbers.specs.declared.Refusal.TheVariants.{OutOfRange, NoJob, NotTheJobs, BeingReturned, NotLegal, PacketInUse};
-ghost use Rattle.packets.specs.declared.Verdict.TheVariants.{Granted};
+ghost use Rattle.std.specs.Prelude.{◌≡◌};
 ghost use Rattle.packets.specs.State.{is_busy, legal_for};
-ghost use Rattle.packets.specs.Rules.{site_of, first, in_range, in_area, is_own, submit_refusal};
+ghost use Rattle.packets.specs.Rules.{site_of, in_range, in_area, is_own, submit_refusal};
 ghost use Rattle.packets_submit.specs.After.{is_listing, is_unlocking, made_for, swept_for, job_after};
 
 use channels::Fitted;
 use numbers::{ChannelNumber, Refusal};
-use packets::{Aim, Job, Packet, Site, Spot, Status, Verdict};
+use packets::{Aim, Job, Packet, Site, Spot, Status};
 use units::{Holder, Unit};
 
 // The unit, or the address X or L.
@@ -24,32 +22,17 @@ pub fn site_of(spot: Spot) -> Site
 }
 
 // Whether place, packet, function, channel and unit are in range and configured.
-fn in_range(has: Fitted, j: u8, p: u8, f: u8, c: ChannelNumber, spot: Spot) -> bool
+fn in_range(has: Option<Fitted>, j: u8, p: u8, f: u8, c: ChannelNumber, spot: Spot) -> bool
     ensures { result ≡ in_range has j p f c.0 spot }
 {
-    if 15 < j {
-        return false;
-    }
-    if 15 < p {
-        return false;
-    }
-    if 63 < f {
-        return false;
-    }
-    if 15 < c.0 {
-        return false;
-    }
-    packets_channels::has_spot(has, spot)
+    j <= 15 && p <= 15 && f <= 63 && c.0 <= 15 && packets_channels::has_spot(has, spot)
 }
 
 // Whether an address is inside the job's area.
 fn in_area(job: Job, x: u32) -> bool
     ensures { result ≡ in_area job x }
 {
-    if x < job.from {
-        return false;
-    }
-    x - job.from < job.words
+    job.from <= x && x - job.from < job.words
 }
 
 // Whether the unit, by its holder, or the drum address is the job's; for 23 on the drum having an area is enough.
@@ -58,74 +41,32 @@ fn is_own(job: Job, holder: Holder, j: u8, f: u8, spot: Spot) -> bool
 {
     match spot {
         Spot::OnUnit(_) => packets_units::is_held_by(holder, j),
-        Spot::OnDrum(x, _) => {
-            if f == 0o23 {
-                return 0 < job.words;
-            }
-            in_area(job, x)
-        }
+        Spot::OnDrum(_, _) if f == 0o23 => 0 < job.words,
+        Spot::OnDrum(x, _) => in_area(job, x),
     }
 }
 
 // Whether a function is legal on what the channel has.
-fn is_legal(has: Fitted, f: u8) -> bool
+fn is_legal(has: Option<Fitted>, f: u8) -> bool
     ensures { result ≡ legal_for has f }
 {
-    match has {
-        Fitted::Nothing => false,
-        Fitted::With(kind, _) => functions::legal(kind, f),
-    }
+    has.is_some_and(|on| functions::legal(on.kind, f))
 }
 
 // Listed, in progress or stopping.
 fn is_busy(status: Status) -> bool
     ensures { result ≡ is_busy status }
 {
-    match status {
-        Status::Blank => false,
-        Status::Listed => true,
-        Status::InProgress => true,
-        Status::Stopping => true,
-        Status::Ended(_) => false,
-    }
+    matches!(
+        status,
+        Status::Listed | Status::InProgress | Status::Stopping
+    )
 }
 
-// The lowest number answers, but 21, for a unit being returned, comes after 3.
-fn lowest(
-    in_range: bool,
-    running: bool,
-    own: bool,
-    returning: bool,
-    legal: bool,
-    busy: bool,
-) -> Verdict
-    ensures { result ≡ first (not in_range) OutOfRange (first (not running) NoJob (first (not own) NotTheJobs
-        (first returning BeingReturned (first (not legal) NotLegal (first busy PacketInUse Granted))))) }
-{
-    if !in_range {
-        return Verdict::Denied(Refusal::OutOfRange);
-    }
-    if !running {
-        return Verdict::Denied(Refusal::NoJob);
-    }
-    if !own {
-        return Verdict::Denied(Refusal::NotTheJobs);
-    }
-    if returning {
-        return Verdict::Denied(Refusal::BeingReturned);
-    }
-    if !legal {
-        return Verdict::Denied(Refusal::NotLegal);
-    }
-    if busy {
-        return Verdict::Denied(Refusal::PacketInUse);
-    }
-    Verdict::Granted
-}
-
-// Whether a submission is refused, by what the channel has, the job and the unit.
+// Whether a submission is refused, by what the channel has, the job and the unit. The lowest number answers, but 21, for
+// a unit being returned, comes after 3.
 pub fn verdict(
-    has: Fitted,
+    has: Option<Fitted>,
     job: Job,
     unit: Unit,
     j: u8,
@@ -133,58 +74,55 @@ pub fn verdict(
     f: u8,
     c: ChannelNumber,
     spot: Spot,
-) -> Verdict
+) -> Result<(), Refusal>
     ensures { result ≡ submit_refusal has job unit j p f c.0 spot }
 {
-    let state = job.state;
-    let ps = job.packets;
-    let holder = unit.holder;
-    let last = packets_job::packet_in(ps, p);
-    let status = last.status;
-    lowest(
-        in_range(has, j, p, f, c, spot),
-        packets_job::is_running(state),
-        is_own(job, holder, j, f, spot),
-        units::is_returning(holder),
-        is_legal(has, f),
-        is_busy(status),
-    )
+    if !in_range(has, j, p, f, c, spot) {
+        return Err(Refusal::OutOfRange);
+    }
+    if !packets_job::is_running(job.state) {
+        return Err(Refusal::NoJob);
+    }
+    if !is_own(job, unit.holder, j, f, spot) {
+        return Err(Refusal::NotTheJobs);
+    }
+    if units::is_returning(unit.holder) {
+        return Err(Refusal::BeingReturned);
+    }
+    if !is_legal(has, f) {
+        return Err(Refusal::NotLegal);
+    }
+    if is_busy(packets_job::packet_in(job.packets, p).status) {
+        return Err(Refusal::PacketInUse);
+    }
+    Ok(())
 }
 
 // Whether 07 has an interlock to remove, by the unit.
 pub fn is_unlocking(f: u8, unit: Unit) -> bool
     ensures { result ≡ is_unlocking f unit.interlock }
 {
-    if f != 0o07 {
-        return false;
-    }
-    unit.interlock
+    f == 0o07 && unit.interlock
 }
 
 // Whether a function is listed: any but 07 and 23.
 pub fn is_listing(f: u8) -> bool
     ensures { result ≡ is_listing f }
 {
-    if f == 0o07 {
-        return false;
-    }
-    f != 0o23
+    f != 0o07 && f != 0o23
 }
 
 // The packet as it is submitted: listed, or ended with 00.
 fn made(f: u8, c: ChannelNumber, at: Site) -> Packet
     ensures { result ≡ made_for f c.0 at }
 {
-    if is_listing(f) {
-        return Packet {
-            status: Status::Listed,
-            function: f,
-            channel: c,
-            at,
-        };
-    }
+    let status = if is_listing(f) {
+        Status::Listed
+    } else {
+        Status::Ended(0)
+    };
     Packet {
-        status: Status::Ended(0),
+        status,
         function: f,
         channel: c,
         at,
@@ -212,11 +150,7 @@ fn swept(ps: [Packet; 16], f: u8, c: ChannelNumber, spot: Spot, unlocking: bool)
 pub fn job_after(job: Job, p: u8, f: u8, c: ChannelNumber, spot: Spot, unlocking: bool) -> Job
     ensures { result ≡ job_after job p f c.0 spot unlocking }
 {
-    let ps = job.packets;
-    let others = swept(ps, f, c, spot, unlocking);
-    let packet = made(f, c, site_of(spot));
-    let qs = packets_job::with_packet(others, p, packet);
-    let mut next = job;
-    next.packets = qs;
-    next
+    let others = swept(job.packets, f, c, spot, unlocking);
+    let packets = packets_job::with_packet(others, p, made(f, c, site_of(spot)));
+    Job { packets, ..job }
 }

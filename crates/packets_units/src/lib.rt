@@ -4,7 +4,7 @@
 ghost use Rattle.std.specs.Prelude.{◌≡◌, ◌&&◌};
 ghost use Rattle.units.specs.State.{units_from, assignable};
 ghost use Rattle.packets.specs.State.{held_by, unit_at, set_lock, set_holder, freed_at, release_all, take_all};
-ghost use Rattle.packets_units.specs.Handed.{handed_to, state_set, wanted_in};
+ghost use Rattle.packets_units.specs.Handed.{state_set, wanted_in};
 
 use numbers::{ChannelNumber, UnitNumber};
 use packets::Site;
@@ -30,25 +30,20 @@ fn with_state_at(units: Units, c: ChannelNumber, at: Site, state: Unit) -> Units
     }
 }
 
-// The unit in other hands.
-fn handed(unit: Unit, holder: Holder, interlock: bool) -> Unit
-    ensures { result ≡ handed_to unit holder interlock }
-{
-    Unit {
-        holder,
-        down: unit.down,
-        reserved: unit.reserved,
-        interlock,
-    }
-}
-
 // The units with the interlock set or cleared where a packet is.
 pub fn with_lock_at(units: Units, c: ChannelNumber, at: Site, on: bool) -> Units
     ensures { result ≡ units_from (set_lock units.of c.0 at on) }
 {
     let unit = unit_where(units, c, at);
-    let holder = unit.holder;
-    with_state_at(units, c, at, handed(unit, holder, on))
+    with_state_at(
+        units,
+        c,
+        at,
+        Unit {
+            interlock: on,
+            ..unit
+        },
+    )
 }
 
 // The units with another holder where a packet is, who finds the interlock as it was.
@@ -56,7 +51,7 @@ pub fn with_holder_at(units: Units, c: ChannelNumber, at: Site, holder: Holder) 
     ensures { result ≡ units_from (set_holder units.of c.0 at holder) }
 {
     let unit = unit_where(units, c, at);
-    with_state_at(units, c, at, handed(unit, holder, unit.interlock))
+    with_state_at(units, c, at, Unit { holder, ..unit })
 }
 
 // The units with the one where a packet is free again if it is being returned.
@@ -64,8 +59,7 @@ pub fn freed_at(units: Units, c: ChannelNumber, at: Site) -> Units
     ensures { result ≡ units_from (freed_at units.of c.0 at) }
 {
     let unit = unit_where(units, c, at);
-    let holder = unit.holder;
-    if units::is_returning(holder) {
+    if units::is_returning(unit.holder) {
         return with_holder_at(units, c, at, Holder::Free);
     }
     units
@@ -75,11 +69,7 @@ pub fn freed_at(units: Units, c: ChannelNumber, at: Site) -> Units
 pub fn is_held_by(holder: Holder, j: u8) -> bool
     ensures { result ≡ held_by holder j }
 {
-    match holder {
-        Holder::Free => false,
-        Holder::Held(k) => k == j,
-        Holder::Returning(k) => k == j,
-    }
+    matches!(holder, Holder::Held(k) | Holder::Returning(k) if k == j)
 }
 
 // The units with those of the job in place j free again.
@@ -88,17 +78,17 @@ pub fn released(units: Units, j: u8) -> Units
 {
     let grid = units::grid_of(units);
     let mut next = units;
-    let mut i: usize = 0;
-    while i < 256 {
-        let c = i / 16;
-        let u = i % 16;
+    // Stays: a `map` over rows, each made by a `map`, leaves open what a call of the outer closure made of its row.
+    for i in 0..256 {
+        let (c, u) = (i / 16, i % 16);
         let unit = grid[c][u];
-        let holder = unit.holder;
-        if is_held_by(holder, j) {
-            let state = handed(unit, Holder::Free, unit.interlock);
+        if is_held_by(unit.holder, j) {
+            let state = Unit {
+                holder: Holder::Free,
+                ..unit
+            };
             next = units::with_unit(next, ChannelNumber(c as u8), UnitNumber(u as u8), state);
         }
-        i += 1;
     }
     next
 }
@@ -107,10 +97,7 @@ pub fn released(units: Units, j: u8) -> Units
 fn is_taken(unit: Unit, wanted: bool) -> bool
     ensures { result ≡ wanted && assignable unit }
 {
-    if wanted {
-        return units::is_assignable(unit);
-    }
-    false
+    wanted && units::is_assignable(unit)
 }
 
 // The units with those of an assignment that are assignable held by the job in place j, without interlock.
@@ -119,16 +106,17 @@ pub fn taken(units: Units, j: u8, wanted: [bool; 256]) -> Units
 {
     let grid = units::grid_of(units);
     let mut next = units;
-    let mut i: usize = 0;
-    while i < 256 {
-        let c = i / 16;
-        let u = i % 16;
+    for (i, &is_wanted) in wanted.iter().enumerate() {
+        let (c, u) = (i / 16, i % 16);
         let unit = grid[c][u];
-        if is_taken(unit, wanted[i]) {
-            let state = handed(unit, Holder::Held(j), false);
+        if is_taken(unit, is_wanted) {
+            let state = Unit {
+                holder: Holder::Held(j),
+                interlock: false,
+                ..unit
+            };
             next = units::with_unit(next, ChannelNumber(c as u8), UnitNumber(u as u8), state);
         }
-        i += 1;
     }
     next
 }

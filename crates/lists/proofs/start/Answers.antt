@@ -1,12 +1,12 @@
 -- `lists::start` meets its contract: the rules' outcome of a start. The invariant: none of the entries passed can
 -- start. Assumes nothing.
+use Rattle.std.proofs.Common.{Some}
 use mathlib.Core.Path.{◌≡◌, refl, ap, ◌∙◌}
 use lib.ListN.{get_or}
 use Rattle.numbers.specs.Elements.{find}
 use Rattle.packets.specs.Rules.{startable_on}
 use Rattle.packets.proofs.ByNumber.{Start}
 use Rattle.packets.specs.State.{place_of, packet_of}
-use Rattle.packets.specs.declared.Found.TheVariants.{At}
 use Rattle.packets_queue.specs.Padded.{list_of}
 use Rattle.packets_queue.proofs.Startable.{can_start_at, starts_is}
 use Rattle.lists.proofs.Calls.{relisted-is, refused-is}
@@ -29,9 +29,9 @@ loop-k-preserved c =
     c.size_of-end.ensures
     c.loop-k.k _ c.loop-k.invariant c.loop-k-test.true c.can_start.result t c.if-can_start.false
 
-pub returns-in-Denied : goal.returns-in-Denied
+pub returns-in-Err : goal.returns-in-Err
 unfolding place_of
-returns-in-Denied c =
+returns-in-Err c =
     let full = entries c.args.lists _ c.well_formed.0 in
     let oldest : c.loop-k-test.found ≡ found_of (find (startable_on c.args.lists.units.of c.args.lists.jobs c.args.channel.0) (list_of c.args.lists.list)) =
     elim c.loop-k-test.branch [
@@ -39,17 +39,17 @@ returns-in-Denied c =
           c.size_of-end.ensures c.loop-k.k _ c.loop-k.invariant w.loop-k-test.false
       | then-loop-k-test+then-can_start w ↦
           let e : w.entry_at-e.result ≡ get_or c.args.lists.list.entries c.loop-k.k 0 = w.entry_at-e.ensures in
-          w.found-is ∙ ap At e ∙ search-found c.args.lists c.args.channel.0 c.row_of-row.result c.row_of-row.ensures full c.size_of-end.result
+          w.found-is ∙ ap Some e ∙ search-found c.args.lists c.args.channel.0 c.row_of-row.result c.row_of-row.ensures full c.size_of-end.result
           c.size_of-end.ensures c.loop-k.k _ c.loop-k.invariant w.loop-k-test.true w.can_start.result
           (rw (← e) (starts_is c.row_of-row.result c.args.lists.jobs c.args.channel.0 w.entry_at-e.result _ refl w.can_start.result w.can_start.ensures))
           w.if-can_start.true
     ] in
     refused-is c.args.lists (Start c.args.channel.0) _
-    (start-verdict c.args.lists c.args.channel.0 c.loop-k-test.found oldest _ refl c.of_start.result c.of_start.ensures ∙ c.in-Denied.is)
+    (start-verdict c.args.lists c.args.channel.0 c.loop-k-test.found oldest _ refl c.of_start.result c.of_start.ensures ∙ c.in-Err.is)
 
-pub returns-in-Granted : goal.returns-in-Granted
+pub returns-in-Ok : goal.returns-in-Ok
 unfolding place_of packet_of
-returns-in-Granted c =
+returns-in-Ok c =
     let full = entries c.args.lists _ c.well_formed.0 in
     let oldest : c.loop-k-test.found ≡ found_of (find (startable_on c.args.lists.units.of c.args.lists.jobs c.args.channel.0) (list_of c.args.lists.list)) =
     elim c.loop-k-test.branch [
@@ -57,12 +57,12 @@ returns-in-Granted c =
           c.size_of-end.ensures c.loop-k.k _ c.loop-k.invariant w.loop-k-test.false
       | then-loop-k-test+then-can_start w ↦
           let e : w.entry_at-e.result ≡ get_or c.args.lists.list.entries c.loop-k.k 0 = w.entry_at-e.ensures in
-          w.found-is ∙ ap At e ∙ search-found c.args.lists c.args.channel.0 c.row_of-row.result c.row_of-row.ensures full c.size_of-end.result
+          w.found-is ∙ ap Some e ∙ search-found c.args.lists c.args.channel.0 c.row_of-row.result c.row_of-row.ensures full c.size_of-end.result
           c.size_of-end.ensures c.loop-k.k _ c.loop-k.invariant w.loop-k-test.true w.can_start.result
           (rw (← e) (starts_is c.row_of-row.result c.args.lists.jobs c.args.channel.0 w.entry_at-e.result _ refl w.can_start.result w.can_start.ensures))
           w.if-can_start.true
     ] in
     start_is c.args.lists c.args.channel.0 c.loop-k-test.found oldest (places c.args.lists _ c.well_formed.0)
-    (start-verdict c.args.lists c.args.channel.0 c.loop-k-test.found oldest _ refl c.of_start.result c.of_start.ensures ∙ c.in-Granted.is)
+    (start-verdict c.args.lists c.args.channel.0 c.loop-k-test.found oldest _ refl c.of_start.result c.of_start.ensures ∙ c.in-Ok.is)
     c.entry_of-e.result c.entry_of-e.ensures (search rules) c.begun-changed.result c.begun-changed.ensures c.started-answer.result c.started-answer.ensures
     c.relisted-left.result (relisted-is c.args.lists full _ _ _ c.relisted-left.ensures) c.busy_with-busy.result c.busy_with-busy.ensures

@@ -4,4 +4,4 @@ use Rattle.lists.proofs.after.begun.Goals as goal
 
 pub returns : goal.returns
 unfolding packet_of
-returns c = rw c.with_status_at-qs.ensures
+returns c = rw c.with_status_at-packets.ensures
