@@ -1,8 +1,7 @@
 -- Every call on the cell: what it answers, and what schedule and lists then hold. A reader has to believe this page. It
 -- puts together the pages of the schedule's calls, of selection, of the request lists and of keyboard messages.
-use Rattle.std.specs.Prelude.{ℕ, ◌≡◌, true, false, List, []}
-use Rattle.numbers.specs.declared.Outcome.{Outcome}
-use Rattle.numbers.specs.declared.Outcome.TheVariants as Outcomes
+use Rattle.std.specs.Prelude.{ℕ, ◌≡◌, true, false, List, [], Result, Ok, Err}
+use Rattle.numbers.specs.declared.Refusal.{Refusal}
 use Rattle.numbers.specs.declared.Refusal.TheVariants as Refusals
 use Rattle.text.specs.Room.{Whole}
 use Rattle.channels.specs.declared.Configuration.{Configuration}
@@ -22,13 +21,12 @@ use Rattle.packets.specs.declared.Answer.TheVariants.{Closed, Completed, Done, R
 use Rattle.packets.specs.declared.Leaving.{Leaving}
 use Rattle.packets.specs.declared.Leaving.TheVariants.{AfterError, AfterNormal, Stays}
 use Rattle.packets.specs.declared.Lists.{Lists}
+use Rattle.packets.specs.declared.Status.{Status}
 use Rattle.lists.specs.Outcomes.{lists_of, outcome, status_in}
-use Rattle.lists.specs.declared.StatusAnswer.{StatusAnswer}
 use Rattle.keyboard.specs.Messages.{read_message}
 use Rattle.keyboard.specs.declared.Asked.{Asked}
 use Rattle.keyboard.specs.declared.Asked.TheVariants as Asked'
 use Rattle.keyboard_answers.specs.MessageAnswers.{answer_text}
-use Rattle.keyboard_answers.specs.declared.Told.TheVariants.{Said, Mistyped}
 use Rattle.cell_selection.specs.Selecting.{Takes}
 use Rattle.cell_selection.specs.declared.Choice.{Choice}
 use Rattle.cell_selection.specs.declared.Choice.TheVariants.{Job, NoPlace, NoCandidates, Lacks}
@@ -38,6 +36,10 @@ use Rattle.cell.specs.declared.DeckAnswer.{DeckAnswer}
 use Rattle.cell.specs.declared.Heeded.{Heeded}
 use Rattle.cell.specs.declared.KeyAnswer.{KeyAnswer}
 use Rattle.cell.specs.declared.SelectAnswer.{SelectAnswer}
+
+-- how a call ends: it is done, or refused
+abbrev pub Outcome : Type 0
+Outcome = Result (Unit {0}) Refusal
 
 abbrev pub cell_of : Schedule → Lists → Cell
 cell_of schedule lists = record { schedule = schedule; lists = lists }
@@ -75,8 +77,8 @@ acted cell x =
 -- ---- the calls on the schedule alone
 
 abbrev pub answer_of : Outcome → Answer
-answer_of Outcomes.Done = Done
-answer_of (Outcomes.Refused n) = Refused n
+answer_of (Ok u) = Done
+answer_of (Err n) = Refused n
 
 abbrev pub changed : Cell → Changed → Answered
 changed cell c = record { answer = answer_of c.outcome; cell = cell_of c.schedule cell.lists }
@@ -97,10 +99,10 @@ pub record Enters (cell : Cell) (bytes room after· : List ℕ) (r : DeckAnswer)
 -- SELECT: where nothing is selected 18, "no place is free", 19, "there are no candidates", or 20, "there are some".
 -- With 20 the selection has the first candidate's ID and the part that is lacking
 abbrev pub outcome_of : Choice → Outcome
-outcome_of Job = Outcomes.Done
-outcome_of NoPlace = Outcomes.Refused Refusals.NoPlaceFree
-outcome_of NoCandidates = Outcomes.Refused Refusals.NoCandidates
-outcome_of (Lacks part) = Outcomes.Refused Refusals.NoAssignment
+outcome_of Job = Ok tt
+outcome_of NoPlace = Err Refusals.NoPlaceFree
+outcome_of NoCandidates = Err Refusals.NoCandidates
+outcome_of (Lacks part) = Err Refusals.NoAssignment
 
 pub record SelectsIn (cell : Cell) (r : SelectAnswer) : Type 0 where
   pub outcome : r.outcome ≡ outcome_of r.selection.choice
@@ -108,21 +110,21 @@ pub record SelectsIn (cell : Cell) (r : SelectAnswer) : Type 0 where
       Takes cell.schedule cell.lists (record { selection = r.selection; schedule = r.cell.schedule; lists = r.cell.lists })
 
 -- READ A PACKET'S STATUS: what the request lists say; nothing changes
-abbrev pub status_of : Cell → ℕ → ℕ → StatusAnswer
+abbrev pub status_of : Cell → ℕ → ℕ → Result Status Refusal
 status_of cell place packet = status_in cell.lists place packet
 
 -- ---- A KEYBOARD MESSAGE (02, request 1)
 
 -- told what a call answered, and its cell
 abbrev pub called : Answered → Heeded
-called a = record { told = Said a.answer; cell = a.cell }
+called a = record { told = Ok a.answer; cell = a.cell }
 
 -- "Each message does what the existing call does": `DWN` and `AVL` are MARK with the down mark. `SEL` is RELEASE and
 -- `DEL` is DELETE, of the ID beside. An unknown message is refused with 17, one with a fault in a field is told that,
 -- and neither changes anything
 abbrev pub heeded : Cell → Asked → List ℕ → Heeded
-heeded cell Asked'.Unknown id = record { told = Said (Refused Refusals.UnknownMessage); cell = cell }
-heeded cell (Asked'.Wrong word fault) id = record { told = Mistyped fault; cell = cell }
+heeded cell Asked'.Unknown id = record { told = Ok (Refused Refusals.UnknownMessage); cell = cell }
+heeded cell (Asked'.Wrong word fault) id = record { told = Err fault; cell = cell }
 heeded cell (Asked'.Mark channel unit on) id = called (acted cell (Mark channel unit Down on))
 heeded cell Asked'.Release id = called (releasing cell id)
 heeded cell Asked'.Delete id = called (deleting cell id)

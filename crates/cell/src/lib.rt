@@ -5,16 +5,16 @@
 ghost use Rattle.std.specs.Prelude.{◌≡◌};
 ghost use Rattle.units.specs.declared.Mark.TheVariants.{Down};
 ghost use Rattle.packets.specs.declared.Act.TheVariants.{Mark};
-ghost use Rattle.cell.specs.Calls.{fresh_cell, acted, left_by, followed, releasing};
+ghost use Rattle.cell.specs.Calls.{cell_of, fresh_cell, acted, left_by, followed, releasing};
 ghost use Rattle.cell.specs.Calls.{deleting, answer_of, outcome_of, status_of, Enters, SelectsIn, called, heeded, Keys};
 
 use cell_selection::{Choice, Selection};
 use channels::Configuration;
 use keyboard::Asked;
 use keyboard_answers::Told;
-use lists::StatusAnswer;
-use numbers::{ChannelNumber, Outcome, Refusal, UnitNumber};
-use packets::{Act, Acted, Answer, Leaving, Lists};
+use numbers::{ChannelNumber, Refusal, UnitNumber};
+use packets::{Act, Acted, Answer, Leaving, Lists, Status};
+use schedule::Changed;
 use schedule_list::Schedule;
 
 #[derive(Clone, Copy)]
@@ -33,7 +33,7 @@ pub struct Answered {
 // What entering a deck answers, where its text ends in the lent room, and the cell then.
 #[derive(Clone, Copy)]
 pub struct DeckAnswer {
-    pub outcome: Outcome,
+    pub outcome: Result<(), Refusal>,
     pub at: usize,
     pub cell: Cell,
 }
@@ -42,7 +42,7 @@ pub struct DeckAnswer {
 // and the cell then.
 #[derive(Clone, Copy)]
 pub struct SelectAnswer {
-    pub outcome: Outcome,
+    pub outcome: Result<(), Refusal>,
     pub selection: Selection,
     pub cell: Cell,
 }
@@ -96,14 +96,14 @@ pub fn enter(cell: Cell, deck: &[u8], out: &mut [u8; schedule_deck::ROOM]) -> De
 }
 
 // How a selection ends, by what is chosen.
-fn outcome_of(choice: Choice) -> Outcome
+fn outcome_of(choice: Choice) -> Result<(), Refusal>
     ensures { result ≡ outcome_of choice }
 {
     match choice {
-        Choice::Job => Outcome::Done,
-        Choice::NoPlace => Outcome::Refused(Refusal::NoPlaceFree),
-        Choice::NoCandidates => Outcome::Refused(Refusal::NoCandidates),
-        Choice::Lacks(_) => Outcome::Refused(Refusal::NoAssignment),
+        Choice::Job => Ok(()),
+        Choice::NoPlace => Err(Refusal::NoPlaceFree),
+        Choice::NoCandidates => Err(Refusal::NoCandidates),
+        Choice::Lacks(_) => Err(Refusal::NoAssignment),
     }
 }
 
@@ -158,14 +158,12 @@ pub fn follow(schedule: Schedule, answer: Answer) -> Schedule
     ensures { result ≡ followed schedule answer }
 {
     match answer {
-        Answer::Done => schedule,
-        Answer::Started(_) => schedule,
+        Answer::Done | Answer::Started(_) | Answer::Refused(_) => schedule,
         Answer::Completed(place, _, leaving) => left_by(leaving, schedule, place, schedule),
         Answer::Closed(place, leaving) => {
             let closing = schedule::closing(schedule, place);
             left_by(leaving, schedule, place, closing)
         }
-        Answer::Refused(_) => schedule,
     }
 }
 
@@ -194,12 +192,24 @@ fn mark_down(cell: Cell, channel: ChannelNumber, unit: UnitNumber, on: bool) -> 
 }
 
 // How a call that only changes the schedule ends.
-fn answer_of(outcome: Outcome) -> Answer
+fn answer_of(outcome: Result<(), Refusal>) -> Answer
     ensures { result ≡ answer_of outcome }
 {
     match outcome {
-        Outcome::Done => Answer::Done,
-        Outcome::Refused(refusal) => Answer::Refused(refusal),
+        Ok(()) => Answer::Done,
+        Err(refusal) => Answer::Refused(refusal),
+    }
+}
+
+// What a call that changed the schedule answers, and the cell with that schedule.
+fn with_change(changed: Changed, lists: Lists) -> Answered
+    ensures { result ≡ record { answer = answer_of changed.outcome; cell = cell_of changed.schedule lists } }
+{
+    let outcome = changed.outcome;
+    let schedule = changed.schedule;
+    Answered {
+        answer: answer_of(outcome),
+        cell: Cell { schedule, lists },
     }
 }
 
@@ -209,16 +219,7 @@ pub fn release(cell: Cell, id: [u8; 6]) -> Answered
 {
     let schedule = cell.schedule;
     let lists = cell.lists;
-    let changed = schedule::release(schedule, id);
-    let outcome = changed.outcome;
-    let waiting = changed.schedule;
-    Answered {
-        answer: answer_of(outcome),
-        cell: Cell {
-            schedule: waiting,
-            lists,
-        },
-    }
+    with_change(schedule::release(schedule, id), lists)
 }
 
 // A request whose job neither runs nor closes is taken out of the schedule.
@@ -227,20 +228,11 @@ pub fn delete(cell: Cell, id: [u8; 6]) -> Answered
 {
     let schedule = cell.schedule;
     let lists = cell.lists;
-    let changed = schedule::delete(schedule, id);
-    let outcome = changed.outcome;
-    let rest = changed.schedule;
-    Answered {
-        answer: answer_of(outcome),
-        cell: Cell {
-            schedule: rest,
-            lists,
-        },
-    }
+    with_change(schedule::delete(schedule, id), lists)
 }
 
 // The status of a packet of a place.
-pub fn status(cell: Cell, place: u8, packet: u8) -> StatusAnswer
+pub fn status(cell: Cell, place: u8, packet: u8) -> Result<Status, Refusal>
     ensures { result ≡ status_of cell place packet }
 {
     let lists = cell.lists;
@@ -254,7 +246,7 @@ fn called(answered: Answered) -> Heeded
     let answer = answered.answer;
     let cell = answered.cell;
     Heeded {
-        told: Told::Said(answer),
+        told: Ok(answer),
         cell,
     }
 }
@@ -265,11 +257,11 @@ fn heed(cell: Cell, asks: Asked, id: [u8; 6]) -> Heeded
 {
     match asks {
         Asked::Unknown => Heeded {
-            told: Told::Said(Answer::Refused(Refusal::UnknownMessage)),
+            told: Ok(Answer::Refused(Refusal::UnknownMessage)),
             cell,
         },
         Asked::Wrong(_, fault) => Heeded {
-            told: Told::Mistyped(fault),
+            told: Err(fault),
             cell,
         },
         Asked::Mark(channel, unit, on) => called(mark_down(cell, channel, unit, on)),

@@ -1,6 +1,7 @@
 -- What the calls on the schedule do to the requests in each place: a deck, a release and a deletion nothing, since
 -- they touch no request whose job runs or closes; a taking puts one into an empty place, a job's end lets it close
 -- there, and a return takes it out of the place. Assumes nothing.
+use Rattle.std.proofs.Common.{Err, Ok}
 use Prim.Native.Nat.{ℕ, ◌≤◌, ◌<◌}
 use mathlib.Core.Path.{◌≡◌, refl, sym, ap, subst, ◌∙◌}
 use mathlib.Core.Bool.{Bool, true, false, cond, ◌&&◌}
@@ -12,15 +13,11 @@ use Rattle.packets.proofs.Laws.{eqb-self}
 use Rattle.numbers.specs.Quoted.{byte}
 use Rattle.numbers.proofs.Tests.{both, by_bool, never}
 use Rattle.numbers.specs.Elements.{find}
-use Rattle.cards_fields.specs.Deck.{deck_end, deck_groups}
-use Rattle.cards_fields.specs.declared.DeckEnd.{DeckEnd}
-use Rattle.cards_fields.specs.declared.DeckEnd.TheVariants.{At, Refused}
-use Rattle.cards_request.specs.Errors.{error_if}
+use Rattle.cards_fields.specs.Deck.{deck_end, deck_groups, DeckEnd}
+use Rattle.cards_request.specs.Errors.{error_if, CardVerdict}
 use Rattle.cards_request.proofs.ErrorLaws.{not_good, or_else_none}
 use Rattle.cards_group.specs.Group.{read_group}
 use Rattle.cards_request.specs.declared.CardError.TheVariants.{InSchedule}
-use Rattle.cards_request.specs.declared.CardVerdict.{CardVerdict}
-use Rattle.cards_request.specs.declared.CardVerdict.TheVariants.{Good, Wrong}
 use Rattle.cards_request.specs.declared.Request.{Request}
 use Rattle.schedule_entries.specs.Entries.{active, blank, first_state, in_place, is_named, suspended, waiting}
 use Rattle.schedule_entries.specs.declared.Entry.{Entry}
@@ -41,8 +38,7 @@ use Rattle.schedule_entering.proofs.Clashes.{barred-at}
 use Rattle.schedule_deck.specs.Report.{after, begin, deck_schedule, end_from, schedule_by, tried_by}
 use Rattle.schedule_deck.specs.declared.Progress.{Progress}
 use Rattle.cell_agreement.specs.Agreement.{states_in}
-use Rattle.cell_agreement.proofs.StandingLaws.{changed-alone, changed-apart, changed-into, first-there, in_one}
-use Rattle.cell_agreement.proofs.StandingLaws.{inserted-apart, without-alone, without-apart}
+use Rattle.cell_agreement.proofs.StandingLaws.{changed-alone, changed-apart, changed-into, first-there, in_one, inserted-apart, without-alone, without-apart}
 
 -- the states of the requests of a schedule in a place
 abbrev pub seen : ℕ → Schedule → List State
@@ -88,29 +84,29 @@ module _ (j : ℕ) where
       out : length es ≤ k → in_place j (entry_at es k).state ≡ false
       out h = rw (get_or-eq_default es blank h)
 
-  not-barred : (es : List Entry) (r : Request) → enter_error es r ≡ Good → barred (find (is_named r.id) es) ≡ false
+  not-barred : (es : List Entry) (r : Request) → enter_error es r ≡ Ok tt → barred (find (is_named r.id) es) ≡ false
   unfolding enter_error
   not-barred es r e =
       let b = barred (find (is_named r.id) es) in
       by b (or_else_none (error_if b InSchedule) (clash_error (removed (is_named r.id) es) r) e).0
     where
-      by : (b : Bool) → error_if b InSchedule ≡ Good → b ≡ false
+      by : (b : Bool) → error_if b InSchedule ≡ Ok tt → b ≡ false
       by true e = not_good e
       by false e = refl
 
   kept-entering : (s : Schedule) (r : Request) (v : CardVerdict) → enter_error (in_schedule s) r ≡ v → seen j (entering_by v s r).schedule ≡ seen j s
-  kept-entering s r Good e =
+  kept-entering s r (Ok u) e =
       let es = in_schedule s in
       let k = of_name r.id es in
       seen_of j (entered es r)
       ∙ inserted-apart j (record { request = r; state = first_state r }) (removed (is_named r.id) es) (idle-nowhere j (first_state r) (first-idle r))
       ∙ ap (states_in j) (removed-at (is_named r.id) es)
       ∙ without-apart j k es (open-idle k es (barred-at r.id es ∙ not-barred es r e))
-  kept-entering s r (Wrong x) e = refl
+  kept-entering s r (Err x) e = refl
 
   kept-tried : (v : CardVerdict) (s : Schedule) (r : Request) → seen j (tried_by v s r).schedule ≡ seen j s
-  kept-tried Good s r = kept-entering s r (enter_error (in_schedule s) r) refl
-  kept-tried (Wrong e) s r = refl
+  kept-tried (Ok u) s r = kept-entering s r (enter_error (in_schedule s) r) refl
+  kept-tried (Err e) s r = refl
 
   kept-group : (p : Progress) (g : List (List ℕ)) → seen j (after p g).schedule ≡ seen j p.schedule
   unfolding after
@@ -125,8 +121,8 @@ module _ (j : ℕ) where
   kept-deck s deck = by (deck_end deck)
     where
       by : (end : DeckEnd) → seen j (schedule_by end s deck) ≡ seen j s
-      by (At n) = kept-groups (begin s) (deck_groups deck)
-      by (Refused refusal) = refl
+      by (Ok n) = kept-groups (begin s) (deck_groups deck)
+      by (Err refusal) = refl
 
   -- a release
   kept-released_at : (k : ℕ) (s : Schedule) → seen j (released_at k s).schedule ≡ seen j s

@@ -1,5 +1,6 @@
 -- What each call on the request lists leaves agrees: an end lets the request and the place close, a return empties
 -- both, and every other call, refused or not, leaves both as they are. Assumes nothing.
+use Rattle.std.proofs.Common.{Err, Ok}
 use Prim.Native.Nat.{ℕ}
 use mathlib.Core.Path.{◌≡◌, refl, sym, ap, ◌∙◌}
 use mathlib.Core.Bool.{Bool, true, false, cond}
@@ -40,7 +41,7 @@ use Rattle.packets.specs.Rules.{
 use Rattle.packets.proofs.ByNumber.{Complete, End}
 use Rattle.packets.specs.declared.Act.{Act}
 use Rattle.packets.specs.declared.Act.TheVariants as Act'
-use Rattle.packets.specs.State.{State, is_closing, is_empty, is_running, motion_on, state_in}
+use Rattle.packets.specs.State.{State, is_closing, is_empty, is_running, motion_on, state_in, Verdict}
 use Rattle.packets.proofs.Steps.{busy-of}
 use Rattle.packets.proofs.Told.{completes-on, ends_of}
 use Rattle.packets.specs.declared.Answer.TheVariants.{Closed}
@@ -49,8 +50,6 @@ use Rattle.packets.specs.declared.JobState.{JobState}
 use Rattle.packets.specs.declared.JobState.TheVariants.{ClosingError, ClosingNormal, Empty, Running}
 use Rattle.packets.specs.declared.Site.TheVariants.{AtUnit}
 use Rattle.packets.specs.declared.Spot.{Spot}
-use Rattle.packets.specs.declared.Verdict.{Verdict}
-use Rattle.packets.specs.declared.Verdict.TheVariants.{Denied, Granted}
 use Rattle.cell.specs.Calls.{followed, left_by}
 use Rattle.cell_agreement.specs.Agreement.{standing}
 use Rattle.packets.proofs.States.{states-begun, states-closed, states-finished, states-handed, states-returned, states-submit}
@@ -136,13 +135,13 @@ module _ (s : Schedule) (st : State) (A : Agree s st) where
       (B j ∙ stands-closing (state_in after.jobs j) j (and_left (is_closing (state_in after.jobs j)) _ d)) d (λ i q. B i))
       (λ d. rw d B)
 
-  agree-complete : (c : ℕ) (how : How) → refusal st (Complete c how) ≡ Granted
+  agree-complete : (c : ℕ) (how : How) → refusal st (Complete c how) ≡ Ok tt
       → Agree (followed s (completes st c how (motion_on st c))) (completed st c how (motion_on st c))
   agree-complete c how r =
       let o = busy-of (motion_on st c) (completes-on st c how r).1 in
       rw o.2 (agree-completed c how o.0 o.1)
 
-  agree-end : (j : ℕ) (e : Bool) → refusal st (End j e) ≡ Granted → Agree (followed s (Closed j (leaving j (closed st j e)))) (ended st j e)
+  agree-end : (j : ℕ) (e : Bool) → refusal st (End j e) ≡ Ok tt → Agree (followed s (Closed j (leaving j (closed st j e)))) (ended st j e)
   agree-end j e r =
       let run = ends_of st j e r in
       let one : seen j s ≡ Request.Running j ∷ [] = A j ∙ stands-running (state_in st.jobs j) j run in
@@ -156,7 +155,7 @@ module _ (s : Schedule) (st : State) (A : Agree s st) where
       (λ d. rw d B)
 
   -- AN ACCEPTED CALL, and the schedule that follows its answer
-  agree-accept : (x : Act) → refusal st (Do x) ≡ Granted → Agree (followed s (answer st (Do x))) (accept st (Do x))
+  agree-accept : (x : Act) → refusal st (Do x) ≡ Ok tt → Agree (followed s (answer st (Do x))) (accept st (Do x))
   unfolding accept answer
   agree-accept (Act'.Submit j p f c w) r = agree-submit j p f c.0 w
   agree-accept (Act'.Start c) r = agree-start c.0 (find (startable st c.0) st.queue)
@@ -171,5 +170,5 @@ module _ (s : Schedule) (st : State) (A : Agree s st) where
   agree-step x = unfold step in by (refusal st (Do x)) refl
     where
       by : (v : Verdict) → refusal st (Do x) ≡ v → Agree (followed s (decided st (Do x) v).answer) (decided st (Do x) v).state
-      by Granted r = agree-accept x r
-      by (Denied n) r = A
+      by (Ok u) r = agree-accept x r
+      by (Err n) r = A

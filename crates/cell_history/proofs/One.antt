@@ -10,7 +10,7 @@ use Rattle.text.specs.Room.{Whole}
 use Rattle.text.proofs.RoomLaws.{whole-one}
 use Rattle.keyboard.specs.Messages.{read_message}
 use Rattle.keyboard_answers.specs.MessageAnswers.{answer_text}
-use Rattle.keyboard_answers.specs.declared.Told.{Told}
+use Rattle.keyboard_answers.specs.MessageAnswers.{Told}
 use Rattle.cell.specs.Calls.{Enters, Keys, SelectsIn, outcome_of}
 use Rattle.cell.specs.declared.Cell.{Cell}
 use Rattle.cell.specs.declared.DeckAnswer.{DeckAnswer}

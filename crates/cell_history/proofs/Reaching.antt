@@ -1,10 +1,10 @@
 -- THE LAWS OF REACHED CELLS: the one induction, what the request lists have reached there, and what a selection's answer
 -- says. Assumes nothing.
+use Rattle.std.proofs.Common.{Err, Ok}
 use mathlib.Core.Path.{◌≡◌, refl, sym, ap, subst, ◌∙◌}
 use mathlib.Core.Bool.{true}
 use mathlib.Core.List.{List, [], ◌∷◌, ◌++◌}
-use Rattle.numbers.specs.declared.Outcome.{Outcome}
-use Rattle.numbers.specs.declared.Outcome.TheVariants.{Done, Refused}
+use Rattle.cell.specs.Calls.{Outcome, fresh_cell, outcome_of}
 use Rattle.numbers.specs.declared.Refusal.{Refusal}
 use Rattle.channels.specs.declared.Configuration.{Configuration}
 use Rattle.configuration_units.specs.Fresh.{fresh_units}
@@ -15,14 +15,12 @@ use Rattle.packets.specs.History.{fresh}
 use Rattle.packets.proofs.Inv.{Inv}
 use Rattle.packets.proofs.Steps as Lists'
 use Rattle.packets.specs.Rules as Rules
-use Rattle.packets.specs.declared.Verdict.TheVariants.{Granted}
 use Rattle.lists.proofs.History.{state-of}
 use Rattle.cell_selection.specs.Selecting.{Selected, Selects, is_job, taking_of}
 use Rattle.cell_selection.proofs.SelectingLaws.{is-selected, taking-granted}
 use Rattle.cell_selection.specs.declared.Choice.{Choice}
 use Rattle.cell_selection.specs.declared.Choice.TheVariants.{Job, NoPlace, NoCandidates, Lacks}
 use Rattle.cell_selection.specs.declared.Selection.{Selection}
-use Rattle.cell.specs.Calls.{fresh_cell, outcome_of}
 use Rattle.cell.specs.declared.Cell.{Cell}
 use Rattle.cell_history.proofs.ToldLaws.{does-told, leads-told}
 use Rattle.cell_history.specs.Told.{inside, told}
@@ -99,35 +97,35 @@ chosen_is {o} {p} {s} {t} e = (ap outcome e, ap selection e)
     selection (Reply.Shown a) = s
     selection (Reply.Mistyped a) = s
 
-not_done : {n : Refusal} → Refused n ≡ Done → ⊥
+not_done : {n : Refusal} → ◌≡◌ {A = Outcome} (Err n) (Ok tt) → ⊥
 not_done {n} e = subst (λ (o : Outcome). is o) e tt
   where
     is : Outcome → Type 0
-    is Done = ⊥
-    is (Refused m) = Unit {0}
+    is (Ok u) = ⊥
+    is (Err m) = Unit {0}
 
 -- done is a job, and nothing else is
-pub done-job : (x : Choice) → outcome_of x ≡ Done → is_job x ≡ true
+pub done-job : (x : Choice) → outcome_of x ≡ Ok tt → is_job x ≡ true
 done-job Job e = refl
 done-job NoPlace e = absurd (not_done e)
 done-job NoCandidates e = absurd (not_done e)
 done-job (Lacks part) e = absurd (not_done e)
 
-pub found_of : (c d : Cell) (s : Selection) → Does c Select (Chosen Done s) d → is_job s.choice ≡ true
+pub found_of : (c d : Cell) (s : Selection) → Does c Select (Chosen (Ok tt) s) d → is_job s.choice ≡ true
 found_of c d s h =
     let e = chosen_is h.1.1.0 in
     ap (λ (x : Selection). is_job x.choice) e.1 ∙ done-job h.0.selection.choice (sym h.1.0.outcome ∙ sym e.0)
 
-pub selected-of : (c d : Cell) (s : Selection) → Does c Select (Chosen Done s) d → Selected (in_schedule c.schedule) c.lists s
+pub selected-of : (c d : Cell) (s : Selection) → Does c Select (Chosen (Ok tt) s) d → Selected (in_schedule c.schedule) c.lists s
 selected-of c d s h =
     let e = chosen_is h.1.1.0 in
     let w : Selects c.schedule c.lists s = subst (Selects c.schedule c.lists) (sym e.1) h.1.0.takes.selects in
     is-selected (in_schedule c.schedule) c.lists s s.choice (found_of c d s h) w
 
 -- a selection is a taking that the lists accept
-pub taking-of : (c d : Cell) (s : Selection) → Does c Select (Chosen Done s) d
-    → (Rules.refusal (inside c) (taking_of s) ≡ Granted) × (inside d ≡ (Rules.step (inside c) (taking_of s)).state)
+pub taking-of : (c d : Cell) (s : Selection) → Does c Select (Chosen (Ok tt) s) d
+    → (Rules.refusal (inside c) (taking_of s) ≡ Ok tt) × (inside d ≡ (Rules.step (inside c) (taking_of s)).state)
 taking-of c d s h = (
   taking-granted c.schedule c.lists s (selected-of c d s h),
-  (does-told c d Select (Chosen Done s) h).1,
+  (does-told c d Select (Chosen (Ok tt) s) h).1,
 )

@@ -1,22 +1,20 @@
 -- WHAT IS TOLD OF A HISTORY leads the request lists, by the rules, from the state before it to the state after it. So all
 -- that holds of any history of the rules holds of any history of the cell. Assumes nothing.
+use Rattle.std.proofs.Common.{Ok}
 use mathlib.Core.Path.{◌≡◌, refl, sym, ap, subst, ◌∙◌}
 use mathlib.Core.Bool.{true, false}
 use mathlib.Core.List.{List, [], ◌∷◌, ◌++◌, append_assoc, append-nil}
 use Rattle.numbers.proofs.Tests.{by_bool, never}
-use Rattle.numbers.specs.declared.Outcome.{Outcome}
-use Rattle.numbers.specs.declared.Outcome.TheVariants as Outcomes
+use Rattle.cell.specs.Calls.{Outcome, acted, outcome_of}
 use Rattle.schedule_list.specs.InSchedule.{in_schedule}
 use Rattle.schedule_list.specs.declared.Schedule.{Schedule}
 use Rattle.packets.specs.History as Lists
 use Rattle.packets.proofs.Reaching as Lists'
 use Rattle.packets.specs.Rules as Rules
-use Rattle.packets.specs.State.{State}
+use Rattle.packets.specs.State.{State, Verdict}
 use Rattle.packets.specs.declared.Act.{Act}
 use Rattle.packets.specs.declared.Answer.TheVariants.{Done}
 use Rattle.packets.specs.declared.Lists.{Lists as Held}
-use Rattle.packets.specs.declared.Verdict.{Verdict}
-use Rattle.packets.specs.declared.Verdict.TheVariants.{Granted}
 use Rattle.lists.specs.Outcomes.{state_of}
 use Rattle.lists.proofs.History.{outcome-is}
 use Rattle.cell_selection.specs.Selecting.{SelectsBy, is_job, left_by, taking_of}
@@ -24,7 +22,6 @@ use Rattle.cell_selection.proofs.SelectingLaws.{is-selected, taking-granted}
 use Rattle.cell_selection.specs.declared.Choice.{Choice}
 use Rattle.cell_selection.specs.declared.Choice.TheVariants.{Job, NoPlace, NoCandidates, Lacks}
 use Rattle.cell_selection.specs.declared.Selection.{Selection}
-use Rattle.cell.specs.Calls.{acted, outcome_of}
 use Rattle.cell.specs.declared.Cell.{Cell}
 use Rattle.cell_history.proofs.MeantLaws.{Plain, by-meant}
 use Rattle.cell_history.specs.History.{Call, Deck, Delete, Do, Does, Event, Key, Leads, Release, Reply, Said, Select, Status}
@@ -40,12 +37,12 @@ acts-told c d x reply e f =
     subst (λ (r : Reply). Lists.Leads (inside c) (said x r) (inside d)) (sym e) (is.0, ap inside f ∙ is.1)
 
 -- the taking of a selection is done
-taking-done : (s : State) (r : Selection) → Rules.refusal s (taking_of r) ≡ Granted → (Rules.step s (taking_of r)).answer ≡ Done
+taking-done : (s : State) (r : Selection) → Rules.refusal s (taking_of r) ≡ Ok tt → (Rules.step s (taking_of r)).answer ≡ Done
 unfolding Rules.step Rules.answer
 taking-done s r g = ap (λ (v : Verdict). (Rules.decided s (taking_of r) v).answer) g
 
 -- a job's outcome is done, and no other's
-pub job-done : (x : Choice) → is_job x ≡ true → outcome_of x ≡ Outcomes.Done
+pub job-done : (x : Choice) → is_job x ≡ true → outcome_of x ≡ Ok tt
 job-done Job t = refl
 job-done NoPlace t = never t refl
 job-done NoCandidates t = never t refl

@@ -1,27 +1,25 @@
 -- ANY SEQUENCE OF CALLS. A call of documents 01 and 02 on the cell, what it answers, and what it leaves; and calls one
 -- after the other. Each is exactly as the contract of the public function of its name in `cell` gives it. A reader has
 -- to believe this page. Of the room lent for a deck or a message it keeps no length: their contracts have it by type.
-use Rattle.std.specs.Prelude.{ℕ, ◌≡◌, List, [], ◌∷◌}
+use Rattle.std.specs.Prelude.{ℕ, ◌≡◌, List, [], ◌∷◌, Ok, Err}
 use Rattle.std.proofs.Math.Option.{Option, none, some}
-use Rattle.numbers.specs.declared.Outcome.{Outcome}
+use Rattle.cell.specs.Calls.{Outcome, acted, deleting, fresh_cell, releasing, status_of, Enters, Keys, SelectsIn}
 use Rattle.channels.specs.declared.Configuration.{Configuration}
 use Rattle.units.specs.declared.Mark.TheVariants.{Down}
 use Rattle.keyboard.specs.Messages.{read_message}
 use Rattle.keyboard.specs.declared.Asked.{Asked}
 use Rattle.keyboard.specs.declared.Asked.TheVariants as Asked'
 use Rattle.keyboard.specs.declared.Fault.{Fault}
-use Rattle.keyboard_answers.specs.declared.Told.{Told}
-use Rattle.keyboard_answers.specs.declared.Told.TheVariants as Told'
+use Rattle.keyboard_answers.specs.MessageAnswers.{Told}
 use Rattle.packets.specs.declared.Act.{Act}
 use Rattle.packets.specs.declared.Act.TheVariants.{Mark}
 use Rattle.packets.specs.declared.Answer.{Answer}
 use Rattle.cell_selection.specs.declared.Selection.{Selection}
-use Rattle.cell.specs.Calls.{acted, deleting, fresh_cell, releasing, status_of, Enters, Keys, SelectsIn}
 use Rattle.cell.specs.declared.Cell.{Cell}
 use Rattle.cell.specs.declared.DeckAnswer.{DeckAnswer}
 use Rattle.cell.specs.declared.KeyAnswer.{KeyAnswer}
 use Rattle.cell.specs.declared.SelectAnswer.{SelectAnswer}
-use Rattle.lists.specs.declared.StatusAnswer.{StatusAnswer}
+use Rattle.lists.specs.Outcomes.{StatusAnswer}
 
 -- the calls, with what the caller hands over: for a deck and for a keyboard message its bytes. Do: a call on packets,
 -- jobs, units or marks
@@ -45,8 +43,8 @@ pub data Reply : Type 0 where
 
 -- what is told of a keyboard message, as a reply
 abbrev pub reply_of : Told → Reply
-reply_of (Told'.Said answer) = Said answer
-reply_of (Told'.Mistyped fault) = Mistyped fault
+reply_of (Ok answer) = Said answer
+reply_of (Err fault) = Mistyped fault
 
 -- WHAT A CALL MAY ANSWER AND LEAVE: `Does c x reply d`, called as x the cell c answers reply and is then d
 abbrev pub Does : Cell → Call → Reply → Cell → Type 0

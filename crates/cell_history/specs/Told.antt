@@ -1,10 +1,9 @@
 -- What a history of the cell is to the request lists: the calls on them, each with the answer that the history records. A
 -- call is told as none, one or several of theirs. A selection is told as a taking, a keyboard message as the call that it
 -- asks for. A reader has to believe this page.
-use Rattle.std.specs.Prelude.{List, [], ◌∷◌, ◌++◌}
+use Rattle.std.specs.Prelude.{List, [], ◌∷◌, ◌++◌, Err, Ok}
 use Rattle.std.proofs.Math.Option.{Option, none, some}
-use Rattle.numbers.specs.declared.Outcome.{Outcome}
-use Rattle.numbers.specs.declared.Outcome.TheVariants as Outcomes
+use Rattle.cell.specs.Calls.{Outcome}
 use Rattle.packets.specs.History as Lists
 use Rattle.packets.specs.Rules as Rules
 use Rattle.packets.specs.State.{State}
@@ -43,8 +42,8 @@ said x (Mistyped f) = []
 
 -- a selection that was answered Done is a taking that was done
 abbrev pub done_as : Outcome → Selection → List Lists.Event
-done_as Outcomes.Done selection = record { call = taking_of selection; answer = Done } ∷ []
-done_as (Outcomes.Refused n) selection = []
+done_as (Ok u) selection = record { call = taking_of selection; answer = Done } ∷ []
+done_as (Err n) selection = []
 
 abbrev pub chosen : Reply → List Lists.Event
 chosen (Entered o) = []

@@ -3,7 +3,7 @@
 use mathlib.Core.Path.{◌≡◌, sym, ap, subst, ◌∙◌}
 use mathlib.Core.List.{List, [], ◌∷◌}
 use Rattle.numbers.proofs.Tests.{by_bool}
-use Rattle.numbers.specs.declared.Outcome.{Outcome}
+use Rattle.cell.specs.Calls.{Outcome, outcome_of}
 use Rattle.units.specs.State.{Square}
 use Rattle.configuration_units.proofs.FreshLaws.{fresh-square}
 use Rattle.schedule_list.specs.InSchedule.{in_schedule}
@@ -22,7 +22,6 @@ use Rattle.packets_given.proofs.GivenProof.{holds-what-it-was-given}
 use Rattle.cell_selection.specs.Selecting.{Selected, SelectsBy, is_job, taking_of}
 use Rattle.cell_selection.proofs.SelectingLaws.{is-selected}
 use Rattle.cell_selection.specs.declared.Selection.{Selection}
-use Rattle.cell.specs.Calls.{outcome_of}
 use Rattle.cell.specs.declared.Cell.{Cell}
 use Rattle.cell_history.proofs.MeantLaws.{Plain, by-meant}
 use Rattle.cell_history.proofs.Reaching.{fresh-inside, reached-lists}

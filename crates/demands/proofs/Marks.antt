@@ -1,5 +1,6 @@
 -- WHAT NO CALL CHANGES: what a channel has, the codes that set interlock, and but for a mark call the marks of a unit;
 -- shown of the rules' steps, and so of the cell's calls. And what an accepted call answers. Assumes nothing.
+use Rattle.std.proofs.Common.{Err, None, Ok, Some}
 use Prim.Native.Nat.{ℕ}
 use mathlib.Core.Path.{◌≡◌, refl, sym, ap, ◌∙◌}
 use mathlib.Core.Bool.{Bool, true, false, ◌&&◌}
@@ -10,8 +11,7 @@ use native.Mathlib.Omega.{arith}
 use lib.Dec.{eqb}
 use Rattle.numbers.proofs.Tests.{by_bool}
 use Rattle.numbers.specs.declared.ChannelNumber.{ChannelNumber}
-use Rattle.numbers.specs.declared.Outcome.{Outcome}
-use Rattle.numbers.specs.declared.Outcome.TheVariants as Outcomes
+use Rattle.cell.specs.Calls.{Outcome, answer_of}
 use Rattle.numbers.specs.declared.UnitNumber.{UnitNumber}
 use Rattle.units.specs.State.{assignable, is_returning, unit_in}
 use Rattle.units.specs.declared.Holder.{Holder}
@@ -26,30 +26,23 @@ use Rattle.packets.proofs.Reaching.{accepted-granted, step-accepted}
 use Rattle.numbers.specs.Elements.{All, find}
 use Rattle.packets.specs.Rules as Rules
 use Rattle.packets.specs.Rules.{accept, closed, completed, finished, is_done, is_trouble, locked, return_if_done, site_of, startable, started, submitted}
-use Rattle.packets.specs.State.{State, is_unit, motion_on, packet_in, release, set_lock, take_unit, wanted}
-use Rattle.packets.specs.State.{with_lock, freed_at, set_holder, unit_at, with_holder}
+use Rattle.packets.specs.State.{State, is_unit, motion_on, packet_in, release, set_lock, take_unit, wanted, with_lock, freed_at, set_holder, unit_at, with_holder, Motion, Verdict}
 use Rattle.packets.specs.declared.Act.{Act}
 use Rattle.packets.specs.declared.Act.TheVariants as Act'
 use Rattle.packets.specs.declared.Answer.{Answer}
 use Rattle.packets.specs.declared.Answer.TheVariants as Answers
 use Rattle.packets.specs.declared.How.{How}
-use Rattle.packets.specs.declared.Motion.{Motion}
-use Rattle.packets.specs.declared.Motion.TheVariants.{Busy, Idle}
 use Rattle.packets.specs.declared.Site.{Site}
 use Rattle.packets.specs.declared.Site.TheVariants.{AtAddress, AtUnit}
 use Rattle.packets.specs.declared.Spot.{Spot}
-use Rattle.packets.specs.declared.Verdict.{Verdict}
-use Rattle.packets.specs.declared.Verdict.TheVariants.{Denied, Granted}
 use Rattle.packets.proofs.Stays.{Configured, leads-has}
 use Rattle.packets.proofs.Store.{unit-keep, unit-release, unit-take}
 use Rattle.cell_selection.specs.declared.Selection.{Selection}
-use Rattle.cell.specs.Calls.{answer_of}
 use Rattle.cell.specs.declared.Cell.{Cell}
 use Rattle.cell_history.proofs.Reaching.{fresh-inside}
 use Rattle.cell_history.proofs.ToldLaws.{does-told, leads-told}
 use Rattle.cell_history.specs.Told.{chosen, done_as, inside, said, told, told_by, told_of}
-use Rattle.cell_history.specs.History.{Call, Chosen, Deck, Delete, Do, Does, Entered, Event, Key, Mistyped}
-use Rattle.cell_history.specs.History.{Reached, Release, Reply, Said, Select, Shown, Status, meant}
+use Rattle.cell_history.specs.History.{Call, Chosen, Deck, Delete, Do, Does, Entered, Event, Key, Mistyped, Reached, Release, Reply, Said, Select, Shown, Status, meant}
 use Rattle.demands.specs.Demands.{AnsweredSo, SameMarks}
 use Rattle.demands.specs.Refusing.{refusal_in}
 
@@ -109,8 +102,8 @@ module _ (f : UnitState → Bool) (locks : (v : UnitState) (b : Bool) → f (wit
     starts-keep c (some e) = refl
 
     completed-keeps : (c : ℕ) (how : How) (m : Motion) → read (completed s c how m) ≡ read s
-    completed-keeps c how Idle = refl
-    completed-keeps c how (Busy j p) =
+    completed-keeps c how None = refl
+    completed-keeps c how (Some (j, p)) =
         back-keeps (return_if_done j (finished s c how j p)).units c (packet_in s.jobs j p).at
         ∙ returns-keep j (finished s c how j p)
         ∙ by_bool (is_trouble s.codes how && is_unit (packet_in s.jobs j p).at)
@@ -137,16 +130,16 @@ module _ (f : UnitState → Bool) (locks : (v : UnitState) (b : Bool) → f (wit
     step_keeps x n = go (Rules.refusal s x)
       where
         go : (v : Verdict) → read (Rules.decided s x v).state ≡ read s
-        go Granted = accept-keeps x n
-        go (Denied r) = refl
+        go (Ok u) = accept-keeps x n
+        go (Err r) = refl
 
   leads-keep : (s : State) (l : List Lists.Event) (t : State) → Lists.Leads s l t → All UnmarkingAs l → read t ≡ read s
   leads-keep s [] t h a = ap read h
   leads-keep s (e ∷ l) t h a = leads-keep (Rules.step s e.call).state l t h.1 a.1 ∙ step_keeps s e.call a.0
 
 done-unmarking : (o : Outcome) (s : Selection) → All UnmarkingAs (done_as o s)
-done-unmarking Outcomes.Done s = (tt, tt)
-done-unmarking (Outcomes.Refused n) s = tt
+done-unmarking (Ok u) s = (tt, tt)
+done-unmarking (Err n) s = tt
 
 chosen-unmarking : (reply : Reply) → All UnmarkingAs (chosen reply)
 chosen-unmarking (Entered o) = tt
@@ -217,8 +210,8 @@ pub answers-so : (c d : Cell) (x : Call) (reply : Reply) → Does c x reply d �
 answers-so c d x reply h = answered-so (inside c) (told_of x reply) (inside d) (does-told c d x reply h)
 
 done-only : (o : Outcome) (a : Answer) → Said a ≡ Said (answer_of o) → refusal_in (Said a) ≡ none → a ≡ Answers.Done
-done-only Outcomes.Done a e n = one_answer e
-done-only (Outcomes.Refused r) a e n = absurd (refused (sym (ap refusal_in e) ∙ n))
+done-only (Ok u) a e n = one_answer e
+done-only (Err r) a e n = absurd (refused (sym (ap refusal_in e) ∙ n))
   where
     refused : some r ≡ none → ⊥
     refused z = let y : ◌≡◌ {A = ℕ} 0 1 = cc in omega arith

@@ -1,5 +1,6 @@
 -- WHAT A REFUSED SELECTION SAYS, shown: 18, 19 and 20 each exactly when its sentence holds, with 20 the first
 -- candidate's ID and the first part that it lacks, and nothing else. Assumes nothing.
+use Rattle.std.proofs.Common.{Err, Ok}
 use Prim.Native.Nat.{ℕ, ◌≤◌, ◌<◌}
 use mathlib.Core.Path.{◌≡◌, refl, sym, ap, subst, ◌∙◌}
 use mathlib.Core.List.{List}
@@ -9,8 +10,7 @@ use lib.Dec.{ltb}
 use borrow.Author.Tests.{ltb-false, ltb-true}
 use Rattle.numbers.proofs.Tests.{by_bool}
 use Rattle.numbers.specs.Refusals.{number_of}
-use Rattle.numbers.specs.declared.Outcome.{Outcome}
-use Rattle.numbers.specs.declared.Outcome.TheVariants.{Done, Refused}
+use Rattle.cell.specs.Calls.{Outcome, outcome_of}
 use Rattle.numbers.specs.declared.Refusal.{Refusal}
 use Rattle.numbers.specs.declared.Refusal.TheVariants as Refusals
 use Rattle.channels.specs.declared.Configuration.{Configuration}
@@ -20,7 +20,6 @@ use Rattle.cell_selection.proofs.SelectingLaws.{not-both}
 use Rattle.cell_selection.specs.declared.Choice.{Choice}
 use Rattle.cell_selection.specs.declared.Choice.TheVariants.{Job, NoPlace, NoCandidates, Lacks}
 use Rattle.cell_selection.specs.declared.Selection.{Selection}
-use Rattle.cell.specs.Calls.{outcome_of}
 use Rattle.cell.specs.declared.Cell.{Cell}
 use Rattle.cell_history.specs.History.{Chosen, Does, Event, Reached, Select}
 use Rattle.cell_history.proofs.Reaching.{chosen_is}
@@ -40,8 +39,8 @@ answer-of c d o s h =
 -- ---- the refusals are apart
 
 abbrev number_in : Outcome → ℕ
-number_in Done = 0
-number_in (Refused n) = number_of n
+number_in (Ok u) = 0
+number_in (Err n) = number_of n
 
 apart : {o p : Outcome} → o ≡ p → (number_in o ≡ number_in p → ⊥) → ⊥
 apart e f = f (ap number_in e)
@@ -98,7 +97,7 @@ below : {i at : ℕ} → (i ≡ at → ⊥) → i ≤ at → i < at
 below n l = omega arith
 
 module _ (configuration : Configuration) (es : List Event) (c : Cell) (leads : Reached configuration es c) (s : Selection) where
-  missing-by : (x : Choice) → s.choice ≡ x → Refused Refusals.NoAssignment ≡ outcome_of x → SelectsBy x (in_schedule c.schedule) c.lists s
+  missing-by : (x : Choice) → s.choice ≡ x → Err Refusals.NoAssignment ≡ outcome_of x → SelectsBy x (in_schedule c.schedule) c.lists s
       → Missing c s
   missing-by Job t e h = absurd (apart e λ q. omega arith)
   missing-by NoPlace t e h = absurd (apart e λ q. omega arith)
@@ -120,19 +119,19 @@ module _ (configuration : Configuration) (es : List Event) (c : Cell) (leads : R
       }
 
 pub missing-so : (configuration : Configuration) (es : List Event) (c : Cell) → Reached configuration es c
-    → (d : Cell) (s : Selection) → Does c Select (Chosen (Refused Refusals.NoAssignment) s) d → Missing c s
+    → (d : Cell) (s : Selection) → Does c Select (Chosen (Err Refusals.NoAssignment) s) d → Missing c s
 missing-so configuration es c l d s h =
-    let a = answer-of c d (Refused Refusals.NoAssignment) s h in missing-by configuration es c l s s.choice refl a.0 a.1
+    let a = answer-of c d (Err Refusals.NoAssignment) s h in missing-by configuration es c l s s.choice refl a.0 a.1
 
 -- ---- and nothing else
 module _ (c : Cell) (s : Selection) where
-  alone-by : (x : Choice) (n : Refusal) → Refused n ≡ outcome_of x → SelectsBy x (in_schedule c.schedule) c.lists s
+  alone-by : (x : Choice) (n : Refusal) → Err n ≡ outcome_of x → SelectsBy x (in_schedule c.schedule) c.lists s
       → (s ≡ unselected x s.first) × ((n ≡ Refusals.NoAssignment → ⊥) → s.first ≡ no_id)
   alone-by Job n e h = absurd (let z : ◌≡◌ {A = ℕ} 0 1 = cc in omega arith)
   alone-by NoPlace n e h = (h.1, λ q. h.0.1)
   alone-by NoCandidates n e h = (h.1, λ q. h.0.1.1)
   alone-by (Lacks part) n e h = (h.1, λ q. absurd (q cc))
 
-pub alone-so : (c d : Cell) (s : Selection) (n : Refusal) → Does c Select (Chosen (Refused n) s) d
-    → (outcome_of s.choice ≡ Refused n) × ((s ≡ unselected s.choice s.first) × ((n ≡ Refusals.NoAssignment → ⊥) → s.first ≡ no_id))
-alone-so c d s n h = let a = answer-of c d (Refused n) s h in (sym a.0, alone-by c s s.choice n a.0 a.1)
+pub alone-so : (c d : Cell) (s : Selection) (n : Refusal) → Does c Select (Chosen (Err n) s) d
+    → (outcome_of s.choice ≡ Err n) × ((s ≡ unselected s.choice s.first) × ((n ≡ Refusals.NoAssignment → ⊥) → s.first ≡ no_id))
+alone-so c d s n h = let a = answer-of c d (Err n) s h in (sym a.0, alone-by c s s.choice n a.0 a.1)

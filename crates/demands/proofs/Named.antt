@@ -1,6 +1,7 @@
 -- EVERY REQUEST IN A SCHEDULE THAT CALLS LEAD TO HAS AN ID OF 1-6 LETTERS OR DIGITS, and any other word is nobody's. A
 -- deck enters what was read from cards, which breaks no rule, and no other call brings a request in or changes one. A
 -- word without a space that had a request's ID would be the letters and digits of it. Assumes nothing.
+use Rattle.std.proofs.Common.{Ok}
 use Prim.Native.Nat.{ℕ, zero, suc, ◌+◌, ◌≤◌, ◌<◌}
 use mathlib.Core.Path.{◌≡◌, refl, sym, ap, subst, ◌∙◌}
 use mathlib.Core.Bool.{Bool, true, false, cond, ◌&&◌}
@@ -25,8 +26,7 @@ use Rattle.channels.specs.declared.Configuration.{Configuration}
 use Rattle.cards_fields.specs.Fields.{padded, spaceless}
 use Rattle.cards_group.specs.Group.{read_full, read_group}
 use Rattle.cards_request.specs.declared.Request.{Request}
-use Rattle.cards_request.specs.declared.CardVerdict.{CardVerdict}
-use Rattle.cards_request.specs.declared.CardVerdict.TheVariants.{Good}
+use Rattle.cards_request.specs.Errors.{CardVerdict}
 use Rattle.cards_round.specs.Allowed.{Name}
 use Rattle.cards_round.proofs.AllowingFull.{full-allowed}
 use Rattle.cards_round.proofs.Fits.{read-takes}
@@ -143,11 +143,11 @@ abbrev NamedIn : Cell → Type 0
 NamedIn c = Each Formed (requests (in_schedule c.schedule))
 
 -- what is read from cards breaks no rule
-read-formed : (g : List (List ℕ)) → (read_group g).verdict ≡ Good → Formed (read_group g).request
+read-formed : (g : List (List ℕ)) → (read_group g).verdict ≡ Ok tt → Formed (read_group g).request
 read-formed g e =
     let v = (read_full g).full in
     let a = groups-alike g in
-    let w : read_full g ≡ record { verdict = Good; full = v } = ap (λ (x : CardVerdict). record { verdict = x; full = v }) (a.0 ∙ e) in
+    let w : read_full g ≡ record { verdict = Ok tt; full = v } = ap (λ (x : CardVerdict). record { verdict = x; full = v }) (a.0 ∙ e) in
     subst Formed a.1 (full-allowed v (read-takes g v w)).request.id
 
 plain-named : (c d : Cell) (x : Call) (reply : Reply) → Plain x → Does c x reply d → Sound c.schedule → NamedIn c → NamedIn d

@@ -1,5 +1,6 @@
 -- DEMAND 1: each call is refused with the number of its table's lowest sentence that holds, and accepted if none
 -- does. By the kinds of call: the rules' chain of tests is the chain of rows. Assumes nothing.
+use Rattle.std.proofs.Common.{Err, None, Ok, Some}
 use Prim.Native.Nat.{ℕ}
 use mathlib.Core.Path.{◌≡◌, refl, sym, ap, subst, ◌∙◌}
 use mathlib.Core.Bool.{Bool, not, cond, ◌&&◌}
@@ -19,8 +20,6 @@ use Rattle.keyboard.specs.Messages.{read_message, message_words}
 use Rattle.keyboard.specs.Typed.{known}
 use Rattle.keyboard.specs.declared.Asked.{Asked}
 use Rattle.keyboard.specs.declared.Asked.TheVariants as Asked'
-use Rattle.channels.specs.declared.Fitted.{Fitted}
-use Rattle.channels.specs.declared.Fitted.TheVariants.{Nothing, With}
 use Rattle.cards_fields.specs.Deck.{cards_of, deck_end, terminated}
 use Rattle.schedule_entries.specs.Entries.{active, is_named, suspended}
 use Rattle.schedule_entries.specs.declared.Entry.{Entry}
@@ -31,19 +30,15 @@ use Rattle.schedule.specs.Calls.{deleted_by, released_by}
 use Rattle.numbers.specs.Elements.{any, find}
 use Rattle.numbers.specs.Limits.{deck_bytes}
 use Rattle.packets.specs.Rules as Rules
-use Rattle.packets.specs.State.{State, configured, fitted_on, is_idle, job_in, motion_on, packet_in, packet_of, place_of, state_in, unit_at}
+use Rattle.packets.specs.State.{Fitting, State, configured, fitted_on, is_idle, job_in, motion_on, packet_in, packet_of, place_of, state_in, unit_at, Motion, Verdict}
 use Rattle.packets.specs.declared.Act.{Act}
 use Rattle.packets.specs.declared.Act.TheVariants as Act'
 use Rattle.packets.specs.declared.How.{How}
 use Rattle.packets.specs.declared.How.TheVariants.{Cut, Failed, Full}
-use Rattle.packets.specs.declared.Motion.{Motion}
-use Rattle.packets.specs.declared.Motion.TheVariants.{Busy, Idle}
 use Rattle.packets.specs.declared.Site.{Site}
 use Rattle.packets.specs.declared.Site.TheVariants.{AtAddress, AtUnit}
 use Rattle.packets.specs.declared.Spot.{Spot}
 use Rattle.packets.specs.declared.Spot.TheVariants.{OnDrum, OnUnit}
-use Rattle.packets.specs.declared.Verdict.{Verdict}
-use Rattle.packets.specs.declared.Verdict.TheVariants.{Denied, Granted}
 use Rattle.lists.specs.Outcomes.{outcome, settled, state_of}
 use Rattle.cell_selection.specs.Selecting.{SelectsBy}
 use Rattle.cell_selection.proofs.SelectingLaws.{not-both}
@@ -59,17 +54,16 @@ use Rattle.cell_history.proofs.MeantLaws.{Plain}
 use Rattle.cell_history.specs.Told.{inside}
 use Rattle.cell_history.specs.History.{Call, Deck, Delete, Do, Does, Key, Release, Reply, Select, Status, call_of, reply_of}
 use Rattle.demands.specs.Refusing.{of_answer, of_outcome, of_status, refusal_in}
-use Rattle.demands.specs.Table.{RefusedBy, Row, SelectRefused, act_rows, can_start, has, is_active, is_open, is_select}
-use Rattle.demands.specs.Table.{is_suspended, is_there, lowest, meant_rows, return_rows, row, rows, submit_rows}
+use Rattle.demands.specs.Table.{RefusedBy, Row, SelectRefused, act_rows, can_start, has, is_active, is_open, is_select, is_suspended, is_there, lowest, meant_rows, return_rows, row, rows, submit_rows}
 
 -- a verdict as a refusal, if it is one
 abbrev pub of_verdict : Verdict → Option Refusal
-of_verdict Granted = none
-of_verdict (Denied n) = some n
+of_verdict (Ok u) = none
+of_verdict (Err n) = some n
 
 -- rows as a chain of tests
 abbrev chain : List Row → Verdict
-chain [] = Granted
+chain [] = Ok tt
 chain (r ∷ rs) = Rules.first r.holds r.refusal (chain rs)
 
 chained : (rs : List Row) → of_verdict (chain rs) ≡ lowest rs
@@ -83,8 +77,8 @@ begins-none s none = refl
 begins-none s (some x) = refl
 
 completes-none : (s : State) (c : ℕ) (how : How) (m : Motion) → of_answer (Rules.completes s c how m) ≡ none
-completes-none s c how Idle = refl
-completes-none s c how (Busy j p) = refl
+completes-none s c how None = refl
+completes-none s c how (Some (j, p)) = refl
 
 accepted-none : (s : State) (x : Rules.Call) → of_answer (Rules.answer s x) ≡ none
 unfolding Rules.answer
@@ -102,17 +96,17 @@ unfolding acted outcome
 answers_by c x = go (Rules.refusal (state_of c.lists) (Rules.Do x))
   where
     go : (v : Verdict) → of_answer (settled c.lists (Rules.Do x) v).answer ≡ of_verdict v
-    go Granted = accepted-none (state_of c.lists) (Rules.Do x)
-    go (Denied n) = refl
+    go (Ok u) = accepted-none (state_of c.lists) (Rules.Do x)
+    go (Err n) = refl
 
 -- the rules' tests of each call are its rows
-submit-is : (s : State) (on : Fitted) (j p f k : ℕ) (w : Spot)
+submit-is : (s : State) (on : Fitting) (j p f k : ℕ) (w : Spot)
     → Rules.submit_refusal on (job_in s.jobs j) (unit_at s.units k (Rules.site_of w)) j p f k w ≡ chain (submit_rows s on j p f k w)
 unfolding state_in
-submit-is s Nothing j p f k (OnUnit u) = refl
-submit-is s Nothing j p f k (OnDrum x h) = refl
-submit-is s (With kind n) j p f k (OnUnit u) = refl
-submit-is s (With kind n) j p f k (OnDrum x h) = refl
+submit-is s None j p f k (OnUnit u) = refl
+submit-is s None j p f k (OnDrum x h) = refl
+submit-is s (Some on) j p f k (OnUnit u) = refl
+submit-is s (Some on) j p f k (OnDrum x h) = refl
 
 submit-rows : (s : State) (j p f k : ℕ) (w : Spot)
     → of_verdict (Rules.submit_refusal (fitted_on s.channels k) (job_in s.jobs j) (unit_at s.units k (Rules.site_of w)) j p f k w)
@@ -137,14 +131,14 @@ none-can t u same (e ∷ q) =
     by_bool (u e) (λ h. rw (is, h) refl) (λ h. rw (is, h) (none-can t u same q))
 
 -- a return, by what the channel has
-return-is : (s : State) (on : Fitted) (j k u : ℕ)
+return-is : (s : State) (on : Fitting) (j k u : ℕ)
     → Rules.return_refusal on (state_in s.jobs j) (unit_in s.units k u) j k u ≡ chain (return_rows s on j k u)
-return-is s Nothing j k u = refl
-return-is s (With kind n) j k u = refl
+return-is s None j k u = refl
+return-is s (Some on) j k u = refl
 
-reach-is : (f : Fitted) (u : UnitNumber) → Rules.reaches f (OnUnit u) ≡ has f (OnUnit u)
-reach-is Nothing u = refl
-reach-is (With kind n) u = refl
+reach-is : (f : Fitting) (u : UnitNumber) → Rules.reaches f (OnUnit u) ≡ has f (OnUnit u)
+reach-is None u = refl
+reach-is (Some on) u = refl
 
 -- the rules' tests of a call on packets, jobs, units or marks are its rows
 rules-rows : (s : State) (x : Act) → of_verdict (Rules.refusal s (Rules.Do x)) ≡ lowest (act_rows s x)
@@ -152,7 +146,7 @@ unfolding Rules.refusal
 rules-rows s (Act'.Submit j p f k w) = submit-rows s j p f k.0 w
 rules-rows s (Act'.Start k) =
     ap (λ (b : Bool). of_verdict (Rules.first (not (configured s.channels k.0)) OutOfRange
-    (Rules.first (not (is_idle (motion_on s k.0))) ChannelBusy (Rules.first b NothingStartable Granted))))
+    (Rules.first (not (is_idle (motion_on s k.0))) ChannelBusy (Rules.first b NothingStartable (Ok tt)))))
     (none-can (Rules.startable s k.0) (can_start s k.0) (can-is s k.0) s.queue)
     ∙ chained (act_rows s (Act'.Start k))
 rules-rows s (Act'.Complete k Full) = chained (act_rows s (Act'.Complete k Full))
@@ -163,7 +157,7 @@ rules-rows s (Act'.Return j k u) =
     let on = fitted_on s.channels k.0 in
     ap of_verdict (return-is s on j k.0 u.0) ∙ chained (return_rows s on j k.0 u.0)
 rules-rows s (Act'.Mark k u m on) =
-    ap (λ (b : Bool). of_verdict (Rules.first (not (ltb k.0 16 && b)) OutOfRange Granted)) (reach-is (fitted_on s.channels k.0) u)
+    ap (λ (b : Bool). of_verdict (Rules.first (not (ltb k.0 16 && b)) OutOfRange (Ok tt))) (reach-is (fitted_on s.channels k.0) u)
     ∙ chained (act_rows s (Act'.Mark k u m on))
 
 -- ---- a deck, release, delete, a status

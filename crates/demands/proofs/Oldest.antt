@@ -1,5 +1,6 @@
 -- THE LIST IS IN THE ORDER OF SUBMISSION, shown call by call: what is no longer listed leaves it, the others keep their
 -- order, and a packet that is submitted and listed joins at its end. Assumes nothing.
+use Rattle.std.proofs.Common.{Ok, Some}
 use Prim.Native.Nat.{ℕ, ◌<◌}
 use mathlib.Core.Path.{◌≡◌, refl, sym, ap, subst, ◌∙◌}
 use mathlib.Core.Bool.{Bool, true, false, cond, ◌&&◌, ◌||◌}
@@ -11,24 +12,20 @@ use borrow.Author.Tests.{eqb-true}
 use Rattle.numbers.proofs.Tests.{by_bool, never}
 use Rattle.numbers.specs.Elements.{All, find, keep}
 use Rattle.packets.specs.Rules as Rules
-use Rattle.packets.specs.Rules.{aimed, always, closed, closing, code_for, cut, failed, finished, fresh_job, is_at, is_done, is_trouble}
-use Rattle.packets.specs.Rules.{locked, over, packet, return_if_done, site_of, startable, started, submitted}
-use Rattle.packets.specs.State.{State, entry_of, is_empty, is_listed, is_still, is_unit, motion_on, packet_in, packet_of, packets_in}
-use Rattle.packets.specs.State.{place_of, put, lock, relist, restatus, restatus_all, state_in, store, sweep, with_status}
+use Rattle.packets.specs.Rules.{aimed, always, closed, closing, code_for, cut, failed, finished, fresh_job, is_at, is_done, is_trouble, locked, over, packet, return_if_done, site_of, startable, started, submitted}
+use Rattle.packets.specs.State.{State, entry_of, is_empty, is_listed, is_still, is_unit, motion_on, packet_in, packet_of, packets_in, place_of, put, lock, relist, restatus, restatus_all, state_in, store, sweep, with_status}
 use Rattle.packets.specs.declared.Act.TheVariants as Act'
 use Rattle.packets.proofs.ByNumber.{Complete, Start}
 use Rattle.packets.specs.declared.Assignment.{Assignment}
 use Rattle.packets.specs.declared.How.{How}
 use Rattle.packets.specs.declared.Job.{Job}
 use Rattle.packets.specs.declared.JobState.TheVariants.{Empty}
-use Rattle.packets.specs.declared.Motion.TheVariants.{Busy}
 use Rattle.packets.specs.declared.Packet.{Packet}
 use Rattle.packets.specs.declared.Site.{Site}
 use Rattle.packets.specs.declared.Site.TheVariants.{AtUnit}
 use Rattle.packets.specs.declared.Spot.{Spot}
 use Rattle.packets.specs.declared.Status.{Status}
 use Rattle.packets.specs.declared.Status.TheVariants.{Blank, Ended, InProgress, Listed, Stopping}
-use Rattle.packets.specs.declared.Verdict.TheVariants.{Granted}
 use Rattle.packets.proofs.Inv.{Elsewhere, EntryOk, Inv, kept-still, running-alive}
 use Rattle.packets.proofs.InvStores.{enlisted-is, put-elsewhere, restatus-elsewhere}
 use Rattle.packets.proofs.Laws.{all-imp, find-holds, keep_all, keep_same}
@@ -184,7 +181,7 @@ module _ (s : State) (I : Inv s) (j p f c : ℕ) (w : Spot) (k : Submits s j p f
       ∙ ap (λ (l : List ℕ). l ++ (entry_of j p ∷ []))
       (relisted s.jobs (put s.jobs j p q) j s.queue (put-elsewhere s.jobs j p q (ready-fits s I j p now-ready)) h))))
 
-module _ (s : State) (I : Inv s) (c : ℕ) (small : c < 16) (how : How) (j p : ℕ) (is : motion_on s c ≡ Busy j p) where
+module _ (s : State) (I : Inv s) (c : ℕ) (small : c < 16) (how : How) (j p : ℕ) (is : motion_on s c ≡ Some (j, p)) where
   thins-over : Thins s (over s c j p (code_for how))
   thins-over =
       let t = thins-store s j p (with_status (packet_in s.jobs j p) (Ended (code_for how))) (over-fits s I c small j p is) refl (still-all s I) in
@@ -218,7 +215,7 @@ order-taken s I j asg small none-there =
     s.queue I.queued))
 
 -- THE LIST AFTER AN ACCEPTED CALL
-pub ordered : (s : State) → Inv s → (x : Rules.Call) → Rules.refusal s x ≡ Granted → Ordered s x (Rules.accept s x)
+pub ordered : (s : State) → Inv s → (x : Rules.Call) → Rules.refusal s x ≡ Ok tt → Ordered s x (Rules.accept s x)
 unfolding Rules.accept
 ordered s I (Rules.Take j asg) r = order-taken s I j asg (assigns-to s j asg r).0 (assigns-to s j asg r).1
 ordered s I (Rules.Do (Act'.Submit j p f c w)) r = order-submit s I j p f c.0 w (submits s j p f c.0 w r)

@@ -1,21 +1,20 @@
 -- WHAT A JOB HAS, shown of every reached cell: after its selection what was assigned to it, and as long
 -- as it is in its place just that; an empty place has nothing. Assumes nothing.
+use Rattle.std.proofs.Common.{Ok}
 use Prim.Native.Nat.{ℕ}
 use mathlib.Core.Path.{◌≡◌, refl, sym, ap, subst, ◌∙◌}
 use mathlib.Core.Bool.{true, false}
 use mathlib.Core.List.{List, [], ◌∷◌, ◌++◌}
 use mathlib.Core.Option.{none, some}
-use Rattle.numbers.specs.declared.Outcome.TheVariants.{Done}
 use Rattle.units.specs.State.{unit_in}
 use Rattle.channels.specs.declared.Configuration.{Configuration}
 use Rattle.assign_drum.specs.Drum.{no_area}
 use Rattle.packets.specs.History as Lists
 use Rattle.packets.specs.Rules as Rules
-use Rattle.packets.specs.State.{State, held_by, in_motion, is_empty, job_in, no_core, packet_in, state_in}
+use Rattle.packets.specs.State.{State, held_by, in_motion, is_empty, job_in, no_core, packet_in, state_in, Verdict}
 use Rattle.packets.specs.declared.Answer.TheVariants as Answers
 use Rattle.packets.specs.declared.Assignment.{Assignment}
 use Rattle.packets.specs.declared.JobState.TheVariants.{Running}
-use Rattle.packets.specs.declared.Verdict.{Verdict}
 use Rattle.packets.proofs.Inv.{motion-busy}
 use Rattle.packets.proofs.InvJobs.{held-once}
 use Rattle.packets.proofs.Laws.{eqb-self}
@@ -109,9 +108,9 @@ own-as s j asg asked back asked' back' e f o =
 
 -- WHAT WAS ASSIGNED the job holds after its selection
 module _ (configuration : Configuration) (es : List Event) (c : Cell) (l : Reached configuration es c) (d : Cell) (s : Selection)
-    (k : Does c Select (Chosen Done s) d) where
+    (k : Does c Select (Chosen (Ok tt) s) d) where
   abbrev event : Event
-  event = record { call = Select; reply = Chosen Done s }
+  event = record { call = Select; reply = Chosen (Ok tt) s }
 
   abbrev assigned : Assignment
   assigned = assignment_of s.request.facilities s.assigned

@@ -1,6 +1,7 @@
 -- WHAT CALLS MAKE OF PLACES AND OF THEIR REQUESTS, shown from what each call leaves: a job that ends is closing until
 -- a call empties its place, and that call removes or suspends its request; a mark changes its unit alone. Assumes
 -- nothing.
+use Rattle.std.proofs.Common.{Ok, Some}
 use Prim.Native.Nat.{ℕ}
 use mathlib.Core.Path.{◌≡◌, refl, sym, ap, subst, ◌∙◌}
 use mathlib.Core.Bool.{Bool, true, false}
@@ -18,16 +19,12 @@ use Rattle.schedule_list.specs.declared.Schedule.{Schedule}
 use Rattle.schedule.specs.Calls as Schedules
 use Rattle.packets.specs.Rules as Rules
 use Rattle.packets.specs.Rules.{closed, closing, finished, is_done, leaving, leaving_as, return_if_done}
-use Rattle.packets.specs.State.{State, is_closing, is_empty, is_running, motion_on, state_in}
+use Rattle.packets.specs.State.{State, is_closing, is_empty, is_running, motion_on, state_in, Motion, Verdict}
 use Rattle.packets.specs.declared.Act.{Act}
 use Rattle.packets.specs.declared.Act.TheVariants as Act'
 use Rattle.packets.specs.declared.How.{How}
 use Rattle.packets.specs.declared.JobState.{JobState}
 use Rattle.packets.specs.declared.JobState.TheVariants.{Empty, Running}
-use Rattle.packets.specs.declared.Motion.{Motion}
-use Rattle.packets.specs.declared.Motion.TheVariants.{Busy}
-use Rattle.packets.specs.declared.Verdict.{Verdict}
-use Rattle.packets.specs.declared.Verdict.TheVariants.{Granted}
 use Rattle.packets.proofs.Laws.{eqb-self}
 use Rattle.packets.proofs.States.{states-closed, states-finished, states-returned}
 use Rattle.packets.proofs.Steps.{busy-of}
@@ -47,7 +44,7 @@ use Rattle.demands.proofs.StatesKept.{by-refusal, states-left, OtherBy, key-othe
 -- ---- what a completion and an end leave
 
 -- the schedule after an accepted call of the lists
-pub schedule-after : (c d : Cell) (x : Act) → d ≡ (acted c x).cell → Rules.refusal (inside c) (Rules.Do x) ≡ Granted
+pub schedule-after : (c d : Cell) (x : Act) → d ≡ (acted c x).cell → Rules.refusal (inside c) (Rules.Do x) ≡ Ok tt
     → d.schedule ≡ followed c.schedule (Rules.answer (inside c) (Rules.Do x))
 unfolding acted Rules.step
 schedule-after c d x e g =
@@ -95,7 +92,7 @@ module _ (c d : Cell) (reply : Reply) (ok : refusal_in reply ≡ none) (place : 
       let o = busy-of (motion_on s k) (completes-on s k how a.0).1 in
       let j = o.0 in
       let s₁ = finished s k how j o.1 in
-      let i : inside d ≡ Rules.completed s k how (Busy j o.1) = a.1 ∙ ap (Rules.completed s k how) o.2 in
+      let i : inside d ≡ Rules.completed s k how (Some (j, o.1)) = a.1 ∙ ap (Rules.completed s k how) o.2 in
       let g : d.schedule ≡ left_by (leaving j s₁) c.schedule j c.schedule =
       schedule-after c d (Act'.Complete q how) h.1 a.0 ∙ ap (λ (m : Motion). followed c.schedule (Rules.completes s k how m)) o.2 in
       by_bool (eqb place j)
@@ -177,7 +174,7 @@ module _ (c d : Cell) (reply : Reply) (place : ℕ) (e : state_in (inside c).job
       let a = accepted-is c d (Act'.Complete q how) reply h ok in
       let o = busy-of (motion_on s k) (completes-on s k how a.0).1 in
       let s₁ = finished s k how o.0 o.1 in
-      let i : inside d ≡ Rules.completed s k how (Busy o.0 o.1) = a.1 ∙ ap (Rules.completed s k how) o.2 in
+      let i : inside d ≡ Rules.completed s k how (Some (o.0, o.1)) = a.1 ∙ ap (Rules.completed s k how) o.2 in
       let v : state_in s₁.jobs place ≡ Running = states-finished s k how o.0 o.1 place ∙ e in
       ap (λ (x : State). state_in x.jobs place) i ∙ runs-left s₁ o.0 v)
 

@@ -1,5 +1,6 @@
 -- THE THREE DEMANDS ARE MET. What the request lists' own theorems say of any history of the rules is carried to any
 -- history of the cell by what the lists hear of it. Assumes nothing.
+use Rattle.std.proofs.Common.{Err, Ok}
 use Prim.Native.Nat.{ℕ}
 use mathlib.Core.Path.{◌≡◌, refl, sym, ap, subst, ◌∙◌}
 use mathlib.Core.Bool.{Bool, true, ◌&&◌}
@@ -7,7 +8,6 @@ use mathlib.Core.List.{List, [], ◌∷◌, ◌++◌, append_assoc}
 use native.Mathlib.Omega.{arith}
 use lib.Dec.{ltb}
 use Rattle.numbers.proofs.Tests.{by_bool}
-use Rattle.numbers.specs.declared.Outcome.TheVariants.{Done}
 use Rattle.numbers.specs.declared.Refusal.{Refusal}
 use Rattle.numbers.specs.declared.Refusal.TheVariants.{OutOfRange}
 use Rattle.channels.specs.declared.Configuration.{Configuration}
@@ -21,8 +21,7 @@ use Rattle.cards_round.proofs.FullRound.{room-read}
 use Rattle.cards_round.proofs.HeldLaws.{held-once}
 use Rattle.cards_round.proofs.Order.{same-request}
 use Rattle.cards_round.proofs.TableRound.{table-place, table-size}
-use Rattle.desk_show.proofs.Own.{bad-if, bad-then, day-cards, day-if, day-then, empty-if, empty-then, no-id}
-use Rattle.desk_show.proofs.Own.{nobody-if, nobody-then, repair-cards, repair-if, repair-then}
+use Rattle.desk_show.proofs.Own.{bad-if, bad-then, day-cards, day-if, day-then, empty-if, empty-then, no-id, nobody-if, nobody-then, repair-cards, repair-if, repair-then}
 use Rattle.desk_show.proofs.Unique.{tied}
 use Rattle.desk_hearing.proofs.Program.{program}
 use Rattle.units.specs.State.{unit_in}
@@ -42,13 +41,11 @@ use Rattle.packets.proofs.InterlocksProof.{lock-after}
 use Rattle.numbers.specs.Elements.{keep}
 use Rattle.packets.specs.State.{State, is_still, packet_in}
 use Rattle.packets.specs.declared.Status.{Status}
-use Rattle.packets.specs.declared.Verdict.TheVariants.{Granted}
 use Rattle.assign.proofs.LackingLaws.{exists-exactly}
 use Rattle.cell_selection.specs.Selecting.{is_job, left_by}
 use Rattle.cell_selection.specs.declared.Selection.{Selection}
 use Rattle.cell.specs.Calls.{Enters, acted}
 use Rattle.cell.specs.declared.Cell.{Cell}
-use Rattle.lists.specs.declared.StatusAnswer.TheVariants.{Is}
 use Rattle.cell_history.specs.Told.{inside, said, told, told_of}
 use Rattle.cell_history.specs.History.{Call, Chosen, Does, Event, Leads, Reached, Reply, Select, Shown}
 use Rattle.demands.specs.Demands.{Demand1, Demand2, Demand3, joins, taken_into}
@@ -71,7 +68,6 @@ use Rattle.cell_history.proofs.ToldLaws.{does-told, leads-told}
 use Rattle.cell_agreement.proofs.AgreementProof.{agrees-always}
 use Rattle.cell_reached.proofs.ReachedProof.{every-cell}
 use Rattle.packets.specs.Rules as Rules
-use Rattle.lists.specs.declared.StatusAnswer.TheVariants as Statuses
 use Rattle.schedule.specs.Calls.{taken as taken'}
 use Rattle.schedule_list.specs.declared.Schedule.{Schedule}
 use Rattle.schedule_deck.specs.Report.{deck_schedule}
@@ -117,7 +113,7 @@ demand-1 =
 
 -- what is so of each call that the rules grant in a reached state is so of each accepted call that is told
 told-so : (P : State → Rules.Call → State → Type 0)
-    → ((l : List Lists.Event) (s : State) (y : Rules.Call) → Lists.Reached l s → Rules.refusal s y ≡ Granted → P s y (Rules.accept s y))
+    → ((l : List Lists.Event) (s : State) (y : Rules.Call) → Lists.Reached l s → Rules.refusal s y ≡ Ok tt → P s y (Rules.accept s y))
     → (configuration : Configuration) (es : List Event) (c : Cell) → Reached configuration es c
     → (d : Cell) (x : Call) (reply : Reply) → Does c x reply d → Along P (inside c) (told_of x reply)
 told-so P f configuration es c r d x reply h =
@@ -127,17 +123,17 @@ others-stay : (c d : Cell) (x : Call) (reply : Reply) → Does c x reply d → t
 others-stay c d x reply k q = subst (λ (l : List Lists.Event). Lists.Leads (inside c) l (inside d)) q (does-told c d x reply k)
 
 -- a status that is shown is the packet's
-shown-is : (c d : Cell) (place packet : ℕ) (status : Status) → Does c (Call.Status place packet) (Shown (Is status)) d
+shown-is : (c d : Cell) (place packet : ℕ) (status : Status) → Does c (Call.Status place packet) (Shown (Ok status)) d
     → status ≡ (packet_in (inside c).jobs place packet).status
 shown-is c d place packet status h =
     by_bool (ltb place 16 && ltb packet 16)
     (λ t. is (packet_in c.lists.jobs place packet).status (h.0 ∙ rw t refl))
     (λ t. absurd (not-refused {n = OutOfRange} (h.0 ∙ rw t refl)))
   where
-    is : (s : Status) → Shown (Is status) ≡ Shown (Is s) → status ≡ s
+    is : (s : Status) → Shown (Ok status) ≡ Shown (Ok s) → status ≡ s
     is s e = cc
 
-    not-refused : {n : Refusal} → Shown (Is status) ≡ Shown (Statuses.Refused n) → ⊥
+    not-refused : {n : Refusal} → Shown (Ok status) ≡ Shown (Err n) → ⊥
     not-refused {n} e = let z : ◌≡◌ {A = ℕ} 0 1 = cc in omega arith
 
 -- a deck that is taken is entered
@@ -145,7 +141,7 @@ entered_so : (c : Cell) (deck room after : List ℕ) (r : DeckAnswer) → Enters
 entered_so c deck room after r h = h.deck.then
 
 -- the request of the job selected runs in its place
-runs_then : (c d : Cell) (s : Selection) → Does c Select (Chosen Done s) d → d.schedule ≡ taken' c.schedule s.at s.place
+runs_then : (c d : Cell) (s : Selection) → Does c Select (Chosen (Ok tt) s) d → d.schedule ≡ taken' c.schedule s.at s.place
 runs_then c d s h =
     let e = chosen_is h.1.1.0 in
     let f : is_job h.0.selection.choice ≡ true = done-job h.0.selection.choice (sym h.1.0.outcome ∙ sym e.0) in
@@ -238,7 +234,7 @@ module _ (configuration : Configuration) (before : List Event) (c : Cell) (r : R
   reached-free : Lists.Reached (told before ++ early) free
   reached-free = reached-append (told before) (inside c) (reached-lists configuration before c r) early free between.1
 
-  granted : Rules.refusal free taking ≡ Granted
+  granted : Rules.refusal free taking ≡ Ok tt
   granted = accepted-granted free taking (sym (ap is_accepted between.2.0))
 
   same_codes : free.codes ≡ configuration.codes

@@ -1,5 +1,6 @@
 -- WHICH CALLS LEAVE THE SCHEDULE AS IT IS: submissions, starts, and completions that empty no place; and what an end
 -- does that does not empty its place at once. Assumes nothing.
+use Rattle.std.proofs.Common.{Err, Ok, Some}
 use Prim.Native.Nat.{ℕ}
 use mathlib.Core.Path.{◌≡◌, refl, sym, ap, ◌∙◌}
 use mathlib.Core.Bool.{Bool, true, false, cond}
@@ -12,17 +13,13 @@ use Rattle.schedule.specs.Calls as Schedules
 use Rattle.numbers.specs.Elements.{find}
 use Rattle.packets.specs.Rules as Rules
 use Rattle.packets.specs.Rules.{closed, closing, finished, is_done, leaving_as, return_if_done}
-use Rattle.packets.specs.State.{State, is_closing, is_empty, motion_on, state_in}
+use Rattle.packets.specs.State.{State, is_closing, is_empty, motion_on, state_in, Motion, Verdict}
 use Rattle.packets.specs.declared.Act.{Act}
 use Rattle.packets.specs.declared.Act.TheVariants as Act'
 use Rattle.packets.specs.declared.How.{How}
 use Rattle.packets.specs.declared.JobState.TheVariants.{Empty}
 use Rattle.packets.specs.declared.Leaving.TheVariants.{Stays}
-use Rattle.packets.specs.declared.Motion.{Motion}
-use Rattle.packets.specs.declared.Motion.TheVariants.{Busy}
 use Rattle.packets.specs.declared.Spot.{Spot}
-use Rattle.packets.specs.declared.Verdict.{Verdict}
-use Rattle.packets.specs.declared.Verdict.TheVariants.{Denied, Granted}
 use Rattle.lists.specs.Outcomes.{outcome, settled}
 use Rattle.packets.proofs.Laws.{eqb-self}
 use Rattle.packets.proofs.States.{states-finished, states-returned}
@@ -64,8 +61,8 @@ unfolding acted outcome
 unmoved c d x e same = ap (λ (z : Cell). z.schedule) e ∙ go (Rules.refusal (inside c) (Rules.Do x))
   where
     go : (v : Verdict) → followed c.schedule (settled c.lists (Rules.Do x) v).answer ≡ c.schedule
-    go Granted = same c.schedule
-    go (Denied n) = refl
+    go (Ok u) = same c.schedule
+    go (Err n) = refl
 
 begins-unmoved : (t : State) (o : Option ℕ) (s : Schedule) → followed s (Rules.begins t o) ≡ s
 begins-unmoved t none s = refl
@@ -105,7 +102,7 @@ completes-so c d q how reply h same =
     let o = busy-of (motion_on s k) (completes-on s k how a.0).1 in
     let j = o.0 in
     let s₁ = finished s k how j o.1 in
-    let i : inside d ≡ Rules.completed s k how (Busy j o.1) = a.1 ∙ ap (Rules.completed s k how) o.2 in
+    let i : inside d ≡ Rules.completed s k how (Some (j, o.1)) = a.1 ∙ ap (Rules.completed s k how) o.2 in
     let n : is_done s₁ j ≡ false =
     left_alone s₁ j (sym (ap (λ (x : State). is_empty (state_in x.jobs j)) i) ∙ same j ∙ ap is_empty (sym (states-finished s k how j o.1 j))) in
     schedule-after c d (Act'.Complete q how) h.1 a.0

@@ -1,5 +1,6 @@
 -- ONE HEAD BACK EARLY, shown of every reached cell: what a return leaves, that the completion frees a unit
 -- that is being returned, and that no other call does. Assumes nothing.
+use Rattle.std.proofs.Common.{Err, None, Ok, Some}
 use Prim.Native.Nat.{ℕ}
 use mathlib.Core.Path.{◌≡◌, refl, ap, ◌∙◌}
 use mathlib.Core.Bool.{Bool, true, false, cond}
@@ -10,8 +11,7 @@ use lib.Dec.{eqb}
 use borrow.Author.Tests.{eqb-true}
 use Rattle.numbers.proofs.Tests.{by_bool, never}
 use Rattle.numbers.specs.declared.ChannelNumber.{ChannelNumber}
-use Rattle.numbers.specs.declared.Outcome.{Outcome}
-use Rattle.numbers.specs.declared.Outcome.TheVariants as Outcomes
+use Rattle.cell.specs.Calls.{Outcome}
 use Rattle.numbers.specs.declared.UnitNumber.{UnitNumber}
 use Rattle.units.specs.State.{is_returning, unit_in}
 use Rattle.units.specs.declared.Mark.TheVariants.{Down}
@@ -30,12 +30,10 @@ use Rattle.packets.specs.History as Lists
 use Rattle.numbers.specs.Elements.{All}
 use Rattle.packets.proofs.ByNumber.{Complete}
 use Rattle.packets.specs.Rules as Rules
-use Rattle.packets.specs.State.{State, motion_on, packet_in}
+use Rattle.packets.specs.State.{State, motion_on, packet_in, Motion}
 use Rattle.packets.specs.declared.Act.{Act}
 use Rattle.packets.specs.declared.Act.TheVariants as Act'
 use Rattle.packets.specs.declared.How.{How}
-use Rattle.packets.specs.declared.Motion.{Motion}
-use Rattle.packets.specs.declared.Motion.TheVariants.{Busy, Idle}
 use Rattle.packets.specs.declared.Site.TheVariants.{AtUnit}
 use Rattle.cell.specs.declared.Cell.{Cell}
 use Rattle.cell_history.proofs.Reaching.{reached-inv, reached-lists}
@@ -89,17 +87,17 @@ back-so configuration es c l d place k u reply h ok =
 
     -- what the return looks for is a packet that is in progress or stopping
     moving : (m : Motion) → motion_on (inside c) k.0 ≡ m → Rules.moves_at (inside c) place k.0 (AtUnit u) m ≡ true → MovesThere c place k u
-    moving Idle e t = never {b = false} t refl
-    moving (Busy j p) e t =
+    moving None e t = never {b = false} t refl
+    moving (Some (j, p)) e t =
         let x : j ≡ place = eqb-true j place (and_left (eqb j place) _ t) in
-        let e' : motion_on (inside c) k.0 ≡ Busy place p = rw x at e in
+        let e' : motion_on (inside c) k.0 ≡ Some (place, p) = rw x at e in
         (p, (I.motion k.0 place p e').going, and_right (eqb j place) _ t)
 
     is-moving : MovesThere c place k u → moves ≡ true
     is-moving m =
         let q = packet_in (inside c).jobs place m.0 in
         let x : q.channel.0 ≡ k.0 = eqb-true q.channel.0 k.0 (and_left (eqb q.channel.0 k.0) _ m.2) in
-        let e : motion_on (inside c) k.0 ≡ Busy place m.0 = rw x at ((every-cell configuration es c l).always.movers place m.0 m.1) in
+        let e : motion_on (inside c) k.0 ≡ Some (place, m.0) = rw x at ((every-cell configuration es c l).always.movers place m.0 m.1) in
         rw (e, eqb-self place) m.2
 
 pub frees-so : (configuration : Configuration) (es : List Event) (c : Cell) → Reached configuration es c
@@ -117,8 +115,8 @@ abbrev Elsewhere : ℕ → Lists.Event → Type 0
 Elsewhere k y = (how : How) → y.call ≡ Complete k how → ⊥
 
 done-elsewhere : (k : ℕ) (o : Outcome) (s : Selection) → All (Elsewhere k) (done_as o s)
-done-elsewhere k Outcomes.Done s = (λ how q. let y : ◌≡◌ {A = ℕ} 0 1 = cc in omega arith, tt)
-done-elsewhere k (Outcomes.Refused n) s = tt
+done-elsewhere k (Ok u) s = (λ how q. let y : ◌≡◌ {A = ℕ} 0 1 = cc in omega arith, tt)
+done-elsewhere k (Err n) s = tt
 
 chosen-elsewhere : (k : ℕ) (reply : Reply) → All (Elsewhere k) (chosen reply)
 chosen-elsewhere k (Entered o) = tt

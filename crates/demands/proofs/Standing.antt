@@ -1,5 +1,6 @@
 -- DEMAND 1: after a refused call everything stands. By the kinds of call; an accepted call's answer is never a
 -- refusal. Assumes nothing.
+use Rattle.std.proofs.Common.{Err, None, Ok, Some}
 use Prim.Native.Nat.{ℕ}
 use mathlib.Core.Path.{◌≡◌, refl, sym, ap, subst, ◌∙◌}
 use mathlib.Core.Bool.{Bool, false}
@@ -7,11 +8,8 @@ use mathlib.Core.List.{List, []}
 use mathlib.Core.Option.{Option, none, some}
 use lib.ListN.{drop}
 use Rattle.numbers.proofs.Tests.{by_bool}
-use Rattle.numbers.specs.declared.Outcome.TheVariants as Outcomes
 use Rattle.numbers.specs.declared.Refusal.{Refusal}
-use Rattle.cards_fields.specs.Deck.{deck_end}
-use Rattle.cards_fields.specs.declared.DeckEnd.{DeckEnd}
-use Rattle.cards_fields.specs.declared.DeckEnd.TheVariants as Ends
+use Rattle.cards_fields.specs.Deck.{deck_end, DeckEnd}
 use Rattle.schedule_entries.specs.Entries.{active, is_named, suspended}
 use Rattle.schedule_entries.specs.declared.Entry.{Entry}
 use Rattle.schedule_list.specs.InSchedule.{in_schedule}
@@ -22,15 +20,11 @@ use Rattle.text.specs.Room.{Whole}
 use Rattle.schedule_deck.specs.Report.{notes_by, outcome_by, schedule_by}
 use Rattle.numbers.specs.Elements.{find}
 use Rattle.packets.specs.Rules as Rules
-use Rattle.packets.specs.State.{State, motion_on}
+use Rattle.packets.specs.State.{State, motion_on, Motion, Verdict}
 use Rattle.packets.specs.declared.Act.{Act}
 use Rattle.packets.specs.declared.Act.TheVariants as Act'
 use Rattle.packets.specs.declared.How.{How}
 use Rattle.packets.specs.declared.Lists.{Lists}
-use Rattle.packets.specs.declared.Motion.{Motion}
-use Rattle.packets.specs.declared.Motion.TheVariants.{Busy, Idle}
-use Rattle.packets.specs.declared.Verdict.{Verdict}
-use Rattle.packets.specs.declared.Verdict.TheVariants.{Denied, Granted}
 use Rattle.lists.specs.Outcomes.{outcome, settled, state_of}
 use Rattle.cell_selection.specs.Selecting.{is_job, left_by}
 use Rattle.cell_selection.specs.declared.Choice.{Choice}
@@ -58,8 +52,8 @@ begins-some s none n e = not_some e
 begins-some s (some x) n e = not_some e
 
 completes-some : (s : State) (c : ℕ) (how : How) (m : Motion) (n : Refusal) → of_answer (Rules.completes s c how m) ≡ some n → ⊥
-completes-some s c how Idle n e = not_some e
-completes-some s c how (Busy j p) n e = not_some e
+completes-some s c how None n e = not_some e
+completes-some s c how (Some (j, p)) n e = not_some e
 
 accepted : (s : State) (x : Rules.Call) (n : Refusal) → of_answer (Rules.answer s x) ≡ some n → ⊥
 unfolding Rules.answer
@@ -80,8 +74,8 @@ acts-stand c x n e = go (Rules.refusal (state_of c.lists) y) e
 
     go : (v : Verdict) → of_answer (settled c.lists y v).answer ≡ some n
         → cell_of (followed c.schedule (settled c.lists y v).answer) (settled c.lists y v).lists ≡ c
-    go Granted k = absurd (accepted (state_of c.lists) y n k)
-    go (Denied m) k = refl
+    go (Ok u) k = absurd (accepted (state_of c.lists) y n k)
+    go (Err m) k = refl
 
 -- ---- release and delete
 
@@ -101,12 +95,12 @@ module _ (c : Cell) (id : List ℕ) (n : Refusal) where
 -- ---- a deck
 
 deck-schedule : (end : DeckEnd) (s : Schedule) (bytes : List ℕ) (n : Refusal) → of_outcome (outcome_by end) ≡ some n → schedule_by end s bytes ≡ s
-deck-schedule (Ends.At k) s bytes n e = absurd (not_some e)
-deck-schedule (Ends.Refused m) s bytes n e = refl
+deck-schedule (Ok k) s bytes n e = absurd (not_some e)
+deck-schedule (Err m) s bytes n e = refl
 
-deck-notes : (end : DeckEnd) (s : Schedule) (bytes : List ℕ) (n : Refusal) → outcome_by end ≡ Outcomes.Refused n → notes_by end s bytes ≡ []
-deck-notes (Ends.At k) s bytes n e = absurd (not_some (ap of_outcome e))
-deck-notes (Ends.Refused m) s bytes n e = refl
+deck-notes : (end : DeckEnd) (s : Schedule) (bytes : List ℕ) (n : Refusal) → outcome_by end ≡ Err n → notes_by end s bytes ≡ []
+deck-notes (Ok k) s bytes n e = absurd (not_some (ap of_outcome e))
+deck-notes (Err m) s bytes n e = refl
 
 deck-stands : (c : Cell) (bytes room after : List ℕ) (r : DeckAnswer) (n : Refusal) → Enters c bytes room after r
     → of_outcome r.outcome ≡ some n → r.cell ≡ c
@@ -118,7 +112,7 @@ deck-stands c bytes room after r n h e =
 
 -- the lent room: nothing is put
 pub deck-lent : (c : Cell) (bytes room after : List ℕ) (r : DeckAnswer) (n : Refusal) → Enters c bytes room after r
-    → r.outcome ≡ Outcomes.Refused n → after ≡ room
+    → r.outcome ≡ Err n → after ≡ room
 deck-lent c bytes room after r n h e =
     let none : notes_by (deck_end bytes) c.schedule bytes ≡ [] = deck-notes (deck_end bytes) c.schedule bytes n (sym h.deck.outcome ∙ e) in
     let w : Whole [] room after r.at = rw none at h.deck.text in

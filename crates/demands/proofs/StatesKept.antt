@@ -1,5 +1,6 @@
 -- WHAT CALLS LEAVE OF THE STATE OF A PLACE: all but a completion and an end leave that of every live place as it was.
 -- Assumes nothing.
+use Rattle.std.proofs.Common.{Err, Ok}
 use Prim.Native.Nat.{ℕ}
 use mathlib.Core.Path.{◌≡◌, refl, sym, ap, subst, ◌∙◌}
 use mathlib.Core.Bool.{true, false}
@@ -9,7 +10,6 @@ use lib.Dec.{eqb}
 use lib.ListN.{get_or, set}
 use lib.Seq.{get_or-set_other}
 use Rattle.numbers.proofs.Tests.{by_bool, never}
-use Rattle.numbers.specs.declared.Outcome.TheVariants as Outcomes
 use Rattle.numbers.specs.declared.Refusal.{Refusal}
 use Rattle.packets.specs.History as Lists
 use Rattle.packets.specs.History.{is_accepted}
@@ -33,8 +33,7 @@ use Rattle.keyboard.specs.declared.Asked.TheVariants as Asked'
 use Rattle.cell_history.proofs.MeantLaws.{Plain, by-meant}
 use Rattle.cell_history.proofs.ToldLaws.{does-told}
 use Rattle.cell_history.specs.Told.{chosen, done_as, inside}
-use Rattle.cell_history.specs.History.{Call, Chosen, Deck, Delete, Do, Does, Entered, Key, Mistyped, Release}
-use Rattle.cell_history.specs.History.{Reply, Said, Select, Shown, Status, call_of, meant}
+use Rattle.cell_history.specs.History.{Call, Chosen, Deck, Delete, Do, Does, Entered, Key, Mistyped, Release, Reply, Said, Select, Shown, Status, call_of, meant}
 use Rattle.demands.specs.Refusing.{refusal_in}
 use Rattle.demands.proofs.Accepted.{accepted-is}
 use Rattle.demands.proofs.Standing.{stands}
@@ -71,7 +70,7 @@ states-left s j i n = by_bool (is_done s j) (λ d. rw d (states-returned s j d i
 abbrev given : Selection → Assignment
 given r = assignment_of r.request.facilities r.assigned
 
-done-keeps : (c : Cell) (r : Selection) (i : ℕ) (s : State) → Lists.Leads (inside c) (done_as Outcomes.Done r) s
+done-keeps : (c : Cell) (r : Selection) (i : ℕ) (s : State) → Lists.Leads (inside c) (done_as (Ok tt) r) s
     → is_empty (state_in (inside c).jobs i) ≡ false → state_in s.jobs i ≡ state_in (inside c).jobs i
 unfolding Rules.accept
 done-keeps c r i s h a =
@@ -83,8 +82,8 @@ done-keeps c r i s h a =
 select-keeps : (c : Cell) (reply : Reply) (i : ℕ) (s : State) → Lists.Leads (inside c) (chosen reply) s
     → is_empty (state_in (inside c).jobs i) ≡ false → state_in s.jobs i ≡ state_in (inside c).jobs i
 select-keeps c (Entered o) i s h a = ap (λ (t : State). state_in t.jobs i) h
-select-keeps c (Chosen Outcomes.Done r) i s h a = done-keeps c r i s h a
-select-keeps c (Chosen (Outcomes.Refused n) r) i s h a = ap (λ (t : State). state_in t.jobs i) h
+select-keeps c (Chosen (Ok u) r) i s h a = done-keeps c r i s h a
+select-keeps c (Chosen (Err n) r) i s h a = ap (λ (t : State). state_in t.jobs i) h
 select-keeps c (Said x) i s h a = ap (λ (t : State). state_in t.jobs i) h
 select-keeps c (Shown x) i s h a = ap (λ (t : State). state_in t.jobs i) h
 select-keeps c (Mistyped f) i s h a = ap (λ (t : State). state_in t.jobs i) h

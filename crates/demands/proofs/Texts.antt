@@ -14,7 +14,6 @@ use Rattle.units.specs.declared.Unit.{Unit as UnitState}
 use Rattle.channels.specs.Channels.{has_unit}
 use Rattle.channels.specs.declared.Channel.{Channel}
 use Rattle.channels.specs.declared.Configuration.{Configuration}
-use Rattle.configuration.specs.declared.Answer.{Answer}
 use Rattle.configuration_units.specs.Fresh.{fresh_units}
 use Rattle.configuration_form.specs.Form.{InForm, FirstBad}
 use Rattle.configuration_form.proofs.Unique.{first-named, read_back}
@@ -24,8 +23,7 @@ use Rattle.cards_group.specs.Group.{answer, full_answer, further_of, ordered_err
 use Rattle.cards_request.specs.declared.FullRequest.{FullRequest}
 use Rattle.cards_request.specs.declared.Further.{Further}
 use Rattle.cards_request.specs.declared.Request.{Request}
-use Rattle.cards_request.specs.declared.CardVerdict.{CardVerdict}
-use Rattle.cards_request.specs.declared.CardVerdict.TheVariants.{Good, Wrong}
+use Rattle.cards_request.specs.Errors.{CardVerdict}
 use Rattle.cards_full.specs.Full.{fits, takes_full, write_answer, written, text_of}
 use Rattle.assign_heads.specs.Sums.{how_many, sum_to}
 use Rattle.packets.specs.History.{fresh}
@@ -33,17 +31,17 @@ use Rattle.packets.specs.State.{State}
 use Rattle.cell.specs.Calls.{fresh_cell}
 use Rattle.cell_history.specs.Told.{inside}
 use Rattle.cell_history.proofs.Reaching.{fresh-inside}
-use Rattle.cards_full.specs.declared.Wrote.TheVariants as Wrote'
+use Rattle.std.specs.Prelude.{Ok, Err}
 
 -- the writer keeps every byte where it refuses
-pub kept-room : (r : FullRequest) (room : List ℕ) (n : Refusal) → write_answer r (length room) ≡ Wrote'.Refused n → written r room ≡ room
+pub kept-room : (r : FullRequest) (room : List ℕ) (n : Refusal) → write_answer r (length room) ≡ Err n → written r room ≡ room
 unfolding write_answer written
 kept-room r room n e =
     by_bool (takes_full r)
     (λ t. by_bool (fits r (length room)) (λ f. absurd (not-cards (rw (t, f) at e))) (λ f. rw (t, f) refl))
     (λ t. rw t refl)
   where
-    not-cards : {k : ℕ} → Wrote'.Cards k ≡ Wrote'.Refused n → ⊥
+    not-cards : {k : ℕ} → Ok k ≡ Err n → ⊥
     not-cards {k} q = let z : ◌≡◌ {A = ℕ} 0 1 = cc in omega arith
 
 -- what is entered and what is read with the further cards are the same
@@ -57,8 +55,8 @@ groups-alike group =
     by : (v : CardVerdict) (q : Request) (f : Further)
         → ((full_answer (answer v q).verdict (answer v q).request f).verdict ≡ (answer v q).verdict)
         × ((full_answer (answer v q).verdict (answer v q).request f).full.request ≡ (answer v q).request)
-    by Good q f = (refl, refl)
-    by (Wrong e) q f = (refl, refl)
+    by (Ok u) q f = (refl, refl)
+    by (Err e) q f = (refl, refl)
 
 pub group-first : (cards : List (List ℕ)) → (read_group cards).verdict ≡ ordered_error (length cards) (get_or cards 0 []) (get_or cards 1 []) (drop 2 cards)
 unfolding read_cards
@@ -66,13 +64,13 @@ group-first cards =
     by (ordered_error (length cards) (get_or cards 0 []) (get_or cards 1 []) (drop 2 cards)) (request_of (get_or cards 0 []) (asked (get_or cards 1 [])))
   where
     by : (v : CardVerdict) (q : Request) → (answer v q).verdict ≡ v
-    by Good q = refl
-    by (Wrong e) q = refl
+    by (Ok u) q = refl
+    by (Err e) q = refl
 
 -- what a bad configuration is listed as
 pub listed-bad : (s room after : List ℕ) (r line : ℕ) → FirstBad s line → Listed s room after r → 96 ≤ length room → take r after ≡ error_text line
 listed-bad s room after r line f l h =
-    (l.whole h).0 ∙ ap (λ (a : Answer). answer_text a.verdict a.configuration) (first-named s line f)
+    (l.whole h).0 ∙ ap answer_text (first-named s line f)
 
 -- and where it does not, holds the cards
 pub written-so : (r : FullRequest) (room : List ℕ) → takes_full r ≡ true → fits r (length room) ≡ true
@@ -84,7 +82,7 @@ written-so r room t f = rw (t, f) refl
 pub listed : (s room after : List ℕ) (r : ℕ) (of : List Channel) (marks : List Bool) (word : ℕ) → InForm s of marks word → Listed s room after r
     → 96 ≤ length room → take r after ≡ lines_from (record { channels = of; down = marks; codes = word }) 16 0
 listed s room after r of marks word f l h =
-    (l.whole h).0 ∙ ap (λ (a : Answer). answer_text a.verdict a.configuration) (read_back s of marks word f)
+    (l.whole h).0 ∙ ap answer_text (read_back s of marks word f)
 
 -- the units that it counts are those of the fresh cell
 counted-to : (configuration : Configuration) (grid : List (List UnitState)) (channel : ChannelNumber) (n : ℕ)

@@ -20,7 +20,7 @@ use Rattle.keyboard.specs.declared.Fault.{Fault}
 use Rattle.keyboard.specs.declared.Message.{Message}
 use Rattle.keyboard.specs.declared.Word.{Word}
 use Rattle.keyboard_answers.specs.MessageAnswers.{answer_text, shown_number}
-use Rattle.keyboard_answers.specs.declared.Told.TheVariants.{Said}
+use Rattle.std.specs.Prelude.{Ok}
 use Rattle.cell.specs.Calls.{Keys, heeded}
 use Rattle.cell.specs.declared.Cell.{Cell}
 use Rattle.cell.specs.declared.Heeded.{Heeded}
@@ -54,7 +54,7 @@ faulty-so c d message fault h =
     by Asked'.Delete e q = absurd (let z : ◌≡◌ {A = ℕ} 0 1 = cc in omega arith)
 
 -- an unknown message: what is told, and so its text
-unknown-text : answer_text Asked'.Unknown (Said (Refused UnknownMessage)) ≡ bytes "--- 17 IN ER"
+unknown-text : answer_text Asked'.Unknown (Ok (Refused UnknownMessage)) ≡ bytes "--- 17 IN ER"
 unfolding shown_number digits_text
 unknown-text = refl
 
@@ -63,7 +63,7 @@ pub unknown-so : (c : Cell) (message room after : List ℕ) (r : KeyAnswer) → 
 unknown-so c message room after r h k =
     let q : (read_message message).asks ≡ Asked'.Unknown = ap (λ (m : Message). m.asks) ((first-of-all message).0 k) in
     let e = h.does ∙ ap (λ (a : Asked). heeded c a (read_message message).id) q in
-    let t : r.told ≡ Said (Refused UnknownMessage) = ap (λ (x : Heeded). x.told) e in (
+    let t : r.told ≡ Ok (Refused UnknownMessage) = ap (λ (x : Heeded). x.told) e in (
       subst (λ (p : List ℕ). Whole p room after r.at)
           (ap (λ (a : Asked). answer_text a r.told) q ∙ ap (answer_text Asked'.Unknown) t ∙ unknown-text) h.text,
       ap (λ (x : Heeded). x.cell) e,

@@ -2,13 +2,12 @@
 -- proofs/Proved.antt, about any cell and call as the contracts of the public functions give them, and about any
 -- history of calls from a fresh cell. Keyboard messages are among the calls, and a history with them is one with the
 -- calls that they are (`spelled`): the demands read on unchanged. A reader has to believe this page.
-use Rattle.std.specs.Prelude.{ℕ, ◌≤◌, ◌<◌, ◌*◌, ◌/◌, ◌%◌, ◌≡◌, Bool, true, false, cond, ◌&&◌, ◌||◌, List, [], ◌∷◌, ◌++◌, ◌⊎◌, eqb, length, get_or, take, drop}
+use Rattle.std.specs.Prelude.{ℕ, ◌≤◌, ◌<◌, ◌*◌, ◌/◌, ◌%◌, ◌≡◌, Bool, true, false, cond, ◌&&◌, ◌||◌, Ok, Err, List, [], ◌∷◌, ◌++◌, ◌⊎◌, eqb, length, get_or, take, drop, Some}
 use Rattle.std.proofs.Math.Option.{none, some}
 use Rattle.numbers.specs.Quoted.{byte, bytes}
 use Rattle.numbers.specs.declared.ChannelNumber.{ChannelNumber}
 use Rattle.numbers.specs.declared.UnitNumber.{UnitNumber}
-use Rattle.numbers.specs.declared.Outcome.{Outcome}
-use Rattle.numbers.specs.declared.Outcome.TheVariants.{Done, Refused}
+use Rattle.cell.specs.Calls.{Outcome, Enters, Keys, cell_of, fresh_cell, outcome_of}
 use Rattle.numbers.specs.declared.Refusal.{Refusal}
 use Rattle.numbers.specs.declared.Refusal.TheVariants.{BadDeck, NoAssignment, NoCandidates, NoGroup, NoPlaceFree, NoRoom, WrongRequest}
 use Rattle.text.specs.Class.{is_alnum}
@@ -38,7 +37,6 @@ use Rattle.cards_fac.specs.Fac.{entries_of}
 use Rattle.cards_further.specs.Further.{canonicals, held}
 use Rattle.cards_group.specs.Group.{ordered_error, read_full, read_group}
 use Rattle.cards_request.specs.declared.FullRequest.{FullRequest}
-use Rattle.cards_request.specs.declared.CardVerdict.TheVariants.{Good}
 use Rattle.cards_full.specs.Full.{behind_id, cards_in, fits, text_of, write_answer, written}
 use Rattle.cards_report.specs.Cards.{begin, cards_text, turns}
 use Rattle.cards_table.specs.Table.{place, table_size}
@@ -74,23 +72,19 @@ use Rattle.packets.specs.declared.Answer.{Answer}
 use Rattle.packets.specs.declared.Answer.TheVariants as Answers
 use Rattle.packets.specs.declared.How.{How}
 use Rattle.packets.specs.declared.JobState.TheVariants.{Empty, Running}
-use Rattle.packets.specs.declared.Motion.TheVariants.{Busy}
 use Rattle.packets.specs.declared.Site.TheVariants.{AtUnit}
 use Rattle.packets.specs.declared.Spot.{Spot}
 use Rattle.packets.specs.declared.Status.{Status}
 use Rattle.cell_taken.specs.Taken.{area_of, core_of}
 use Rattle.assign.specs.Parts.{FirstLacking}
 use Rattle.assign.specs.Chosen.{ExistsExactly}
-use Rattle.assign.specs.declared.Lacking.TheVariants.{First}
 use Rattle.assign.specs.declared.Part.{Part}
 use Rattle.cell_selection.specs.Selecting.{AllHeld, Candidate, HasNone, NoCandidate, NoFit, Selected, assignment_of, no_id, supply_in, unselected}
 use Rattle.cell_selection.specs.declared.Choice.TheVariants.{Lacks}
 use Rattle.cell_selection.specs.declared.Selection.{Selection}
-use Rattle.cell.specs.Calls.{Enters, Keys, cell_of, fresh_cell, outcome_of}
 use Rattle.cell.specs.declared.Cell.{Cell}
 use Rattle.cell.specs.declared.DeckAnswer.{DeckAnswer}
 use Rattle.cell.specs.declared.KeyAnswer.{KeyAnswer}
-use Rattle.lists.specs.declared.StatusAnswer.TheVariants.{Is}
 use Rattle.cell_history.specs.Told.{inside, told, told_of}
 use Rattle.cell_history.specs.Spelled.{SpelledAlways}
 use Rattle.cell_history.specs.History.{
@@ -117,7 +111,6 @@ use Rattle.demands.specs.Table.{RefusedBy, is_select}
 use Rattle.packets.specs.declared.Assignment.{Assignment}
 use Rattle.packets.specs.declared.Status.TheVariants.{Stopping}
 use Rattle.packets_given.specs.Given.{OnItsOwn, StillOwn, asking, has_returned, no_heads, taking}
-use Rattle.cards_full.specs.declared.Wrote.TheVariants as Wrote'
 use Rattle.packets.specs.Rules as Rules
 
 -- a fact holds exactly when another does
@@ -127,19 +120,19 @@ Exactly A B = (A → B) × (B → A)
 -- for an ID and two decks on the desk: each of the four answers exactly when its sentence holds
 pub record ShownSo (id repair day : List ℕ) (r : Extent) (part : List ℕ) : Type 0 where
   -- "11 first": exactly where a deck is refused, whatever the other one has,
-  pub bad : Exactly (r.which ≡ Which'.Refused BadDeck) (IsBad repair ⊎ IsBad day)
+  pub bad : Exactly (r.which ≡ Err BadDeck) (IsBad repair ⊎ IsBad day)
   -- else "from the repair deck if they are there",
-  pub of_repair : Exactly (r.which ≡ Which'.Repair) ((IsRead repair × IsRead day) × (NoneHas id (deck_groups repair) → ⊥))
+  pub of_repair : Exactly (r.which ≡ Ok Which'.Repair) ((IsRead repair × IsRead day) × (NoneHas id (deck_groups repair) → ⊥))
   -- "else from the day's deck",
-  pub of_day : Exactly (r.which ≡ Which'.Day)
+  pub of_day : Exactly (r.which ≡ Ok Which'.Day)
       ((IsRead repair × IsRead day) × (NoneHas id (deck_groups repair) × (NoneHas id (deck_groups day) → ⊥)))
   -- and "22 no group with that ID in either deck":
-  pub nobody : Exactly (r.which ≡ Which'.Refused NoGroup)
+  pub nobody : Exactly (r.which ≡ Err NoGroup)
       ((IsRead repair × IsRead day) × (NoneHas id (deck_groups repair) × NoneHas id (deck_groups day)))
   -- "An id that isn't 1-6 of A-Z and 0-9 has none";
-  pub no_id : is_name id ≡ false → IsRead repair × IsRead day → r.which ≡ Which'.Refused NoGroup
+  pub no_id : is_name id ≡ false → IsRead repair × IsRead day → r.which ≡ Err NoGroup
   -- and no card is shown exactly where there is a refusal
-  pub empty : Exactly (part ≡ []) ((n : Refusal) × (r.which ≡ Which'.Refused n))
+  pub empty : Exactly (part ≡ []) ((n : Refusal) × (r.which ≡ Err n))
 
 -- "1. Every card, deck, configuration and call is answered, whatever is in it. Bad input gets the numbered refusal from
 -- document 01, and after a refused call the cell and the schedule stand as they did before." That each is answered is
@@ -152,13 +145,13 @@ pub record Demand1 : Type 0 where
   pub stands : (c d : Cell) (x : Call) (reply : Reply) (n : Refusal) → Does c x reply d → refusal_in reply ≡ some n → d ≡ c
   -- the room that was lent for a deck's answer,
   pub lent : (c : Cell) (deck room after : List ℕ) (r : DeckAnswer) (n : Refusal) → Enters c deck room after r
-      → r.outcome ≡ Refused n → after ≡ room
+      → r.outcome ≡ Err n → after ≡ room
   -- and the room that was lent for cards to be written, after 13 and after 12
-  pub kept : (v : FullRequest) (room : List ℕ) (n : Refusal) → write_answer v (length room) ≡ Wrote'.Refused n → written v room ≡ room
+  pub kept : (v : FullRequest) (room : List ℕ) (n : Refusal) → write_answer v (length room) ≡ Err n → written v room ≡ room
   -- "13 comes before 12": 13 for a request with its further cards against a rule, and else (`wrote`) for none; 12 for a
   -- "card to write over 80 characters, or lent room too short"
-  pub wrong : (v : FullRequest) (room : ℕ) → (AllowedFull v → ⊥) → write_answer v room ≡ Wrote'.Refused WrongRequest
-  pub short : (v : FullRequest) (room : ℕ) → AllowedFull v → fits v room ≡ false → write_answer v room ≡ Wrote'.Refused NoRoom
+  pub wrong : (v : FullRequest) (room : ℕ) → (AllowedFull v → ⊥) → write_answer v room ≡ Err WrongRequest
+  pub short : (v : FullRequest) (room : ℕ) → AllowedFull v → fits v room ≡ false → write_answer v room ≡ Err NoRoom
   -- Every group of any cards is answered, with its first error alone, or with its request; what a schedule enters of it and
   -- what is read with the further cards are the same verdict and the same request
   pub groups : (group : List (List ℕ))
@@ -246,14 +239,14 @@ AnsweredSo s (e ∷ l) =
 -- a selection "refused" is "these three together", each exactly when its sentence holds
 pub record RefusedSo (c : Cell) (o : Outcome) : Type 0 where
   -- "18 means no place is free",
-  pub no_place : Exactly (o ≡ Refused NoPlaceFree) (AllHeld c.lists)
+  pub no_place : Exactly (o ≡ Err NoPlaceFree) (AllHeld c.lists)
   -- else "19 that there are no candidates",
-  pub no_candidates : Exactly (o ≡ Refused NoCandidates) ((AllHeld c.lists → ⊥) × NoCandidate (in_schedule c.schedule))
+  pub no_candidates : Exactly (o ≡ Err NoCandidates) ((AllHeld c.lists → ⊥) × NoCandidate (in_schedule c.schedule))
   -- else "20 that there are some", and none of them has an assignment;
-  pub no_assignment : Exactly (o ≡ Refused NoAssignment)
+  pub no_assignment : Exactly (o ≡ Err NoAssignment)
       ((AllHeld c.lists → ⊥) × ((NoCandidate (in_schedule c.schedule) → ⊥) × NoFit (in_schedule c.schedule) (supply_in c.lists)))
   -- and it is refused "exactly when no place is free or no such job exists"
-  pub together : Exactly (o ≡ Done → ⊥) (AllHeld c.lists ⊎ NoFit (in_schedule c.schedule) (supply_in c.lists))
+  pub together : Exactly (o ≡ Ok tt → ⊥) (AllHeld c.lists ⊎ NoFit (in_schedule c.schedule) (supply_in c.lists))
 
 -- what comes with 20: "the first candidate's ID and the first facility lacking for it, in the order core, drum, MA, MT,
 -- PR", and "20 names the new kinds after PR": MC, CR, PT
@@ -264,7 +257,7 @@ pub record Missing (c : Cell) (s : Selection) : Type 0 where
       → precedes (key_of (entry_at (in_schedule c.schedule) at).request) (key_of (entry_at (in_schedule c.schedule) i).request) ≡ true
   pub id : s.first ≡ (entry_at (in_schedule c.schedule) at).request.id
   pub part : Part
-  pub lacking : FirstLacking (supply_in c.lists) (entry_at (in_schedule c.schedule) at).request.facilities (First part)
+  pub lacking : FirstLacking (supply_in c.lists) (entry_at (in_schedule c.schedule) at).request.facilities (Some part)
   pub told : s.choice ≡ Lacks part
 
 -- "2. It is right against UP-2577 Rev. 1 as document 01 condenses it. Cards written are read back as the same request. The
@@ -273,19 +266,19 @@ pub record Missing (c : Cell) (s : Selection) : Type 0 where
 pub record Demand2 : Type 0 where
   -- "cards written are read back as the same request": every request with its further cards that breaks no rule is
   -- written where its cards fit, and they are read as it,
-  pub wrote : (v : FullRequest) (room : ℕ) → AllowedFull v → fits v room ≡ true → write_answer v room ≡ Wrote'.Cards (length (text_of v))
+  pub wrote : (v : FullRequest) (room : ℕ) → AllowedFull v → fits v room ≡ true → write_answer v room ≡ Ok (length (text_of v))
   pub bytes : (v : FullRequest) (room : List ℕ) → AllowedFull v → fits v (length room) ≡ true
       → written v room ≡ text_of v ++ drop (length (text_of v)) room
   pub cards : (v : FullRequest) (room : List ℕ) → AllowedFull v → fits v (length room) ≡ true
-      → read_full (cards_of (take (length (text_of v)) (written v room))) ≡ record { verdict = Good; full = v }
+      → read_full (cards_of (take (length (text_of v)) (written v room))) ≡ record { verdict = Ok tt; full = v }
   -- and every request that was read from cards is written where the room has 1,296 bytes: neither 13 nor 12 arises
-  pub again : (group : List (List ℕ)) (v : FullRequest) (room : List ℕ) → read_full group ≡ record { verdict = Good; full = v }
+  pub again : (group : List (List ℕ)) (v : FullRequest) (room : List ℕ) → read_full group ≡ record { verdict = Ok tt; full = v }
       → 1296 ≤ length room
-      → (write_answer v (length room) ≡ Wrote'.Cards (length (text_of v)))
-      × (read_full (cards_of (take (length (text_of v)) (written v room))) ≡ record { verdict = Good; full = v })
+      → (write_answer v (length room) ≡ Ok (length (text_of v)))
+      × (read_full (cards_of (take (length (text_of v)) (written v room))) ≡ record { verdict = Ok tt; full = v })
   -- "Written cards keep the division read": each further card is written as the one read, in canonical form and behind the
   -- ID; PTY has at most 64 characters, and each other card is no longer than the one read
-  pub division : (group : List (List ℕ)) (v : FullRequest) → read_full group ≡ record { verdict = Good; full = v }
+  pub division : (group : List (List ℕ)) (v : FullRequest) → read_full group ≡ record { verdict = Ok tt; full = v }
       → (drop 2 (cards_in v) ≡ behind_id (spaceless v.request.id) (canonicals (drop 2 group)))
       × ((length (get_or (cards_in v) 0 []) ≤ 64) × NoLonger (drop 1 (cards_in v)) (drop 1 group))
   -- "equal requests, entry order apart": where one FAC card is good, another that is not malformed, of the same ID and
@@ -293,8 +286,8 @@ pub record Demand2 : Type 0 where
   -- same; further cards that are held alike say the same, one by one in order
   pub same : (pty fac other : List ℕ) (further : List (List ℕ)) → malformed other ≡ false → take 2 (fields other) ≡ take 2 (fields fac)
       → Permuted (entries_of fac) (entries_of other) → (v : FullRequest)
-      → read_full (pty ∷ fac ∷ further) ≡ record { verdict = Good; full = v }
-      → read_full (pty ∷ other ∷ further) ≡ record { verdict = Good; full = v }
+      → read_full (pty ∷ fac ∷ further) ≡ record { verdict = Ok tt; full = v }
+      → read_full (pty ∷ other ∷ further) ≡ record { verdict = Ok tt; full = v }
   pub alike : (cards others : List Card) → Kept cards → Kept others → held (texts_of cards) ≡ held (texts_of others) → cards ≡ others
   -- "With highest digit N the parameter table has 66 times (N+1) characters, blanks filling a short or omitted card's 66":
   -- of cards that keep the rules, the character at place i is character i mod 66 of the PM text with digit i div 66, or a
@@ -322,31 +315,31 @@ pub record Demand2 : Type 0 where
   pub noted : (c : Cell) (deck room after : List ℕ) (r : DeckAnswer) → Enters c deck room after r
       → Whole (deck_notes c.schedule deck) room after r.at
   -- "the job selected" is a candidate with an assignment, the one chosen, and the place the lowest that is free,
-  pub selected : (c d : Cell) (s : Selection) → Does c Select (Chosen Done s) d → Selected (in_schedule c.schedule) c.lists s
+  pub selected : (c d : Cell) (s : Selection) → Does c Select (Chosen (Ok tt) s) d → Selected (in_schedule c.schedule) c.lists s
   -- it runs then, so that it is not selected again,
-  pub runs : (c d : Cell) (s : Selection) → Does c Select (Chosen Done s) d
+  pub runs : (c d : Cell) (s : Selection) → Does c Select (Chosen (Ok tt) s) d
       → d.schedule ≡ Schedule.taken c.schedule s.at s.place
   -- and it is "the first in order": by letter, then precedence, then sequence no candidate with an assignment comes
   -- before it
   pub first : (configuration : Configuration) (es : List Event) (c : Cell) → Reached configuration es c
-      → (d : Cell) (s : Selection) → Does c Select (Chosen Done s) d
+      → (d : Cell) (s : Selection) → Does c Select (Chosen (Ok tt) s) d
       → (i : ℕ) → Candidate (in_schedule c.schedule) i
       → precedes (key_of (entry_at (in_schedule c.schedule) i).request) (key_of s.request) ≡ true
       → HasNone (supply_in c.lists) (entry_at (in_schedule c.schedule) i).request
   -- "taken into the lowest free place": what was assigned it then holds, exactly those units, that drum area and that
   -- core, none of it being returned, and no other job has any of it
   pub holds : (configuration : Configuration) (es : List Event) (c : Cell) → Reached configuration es c
-      → (d : Cell) (s : Selection) → Does c Select (Chosen Done s) d
+      → (d : Cell) (s : Selection) → Does c Select (Chosen (Ok tt) s) d
       → StillOwn (inside d) s.place (assignment_of s.request.facilities s.assigned) no_heads no_heads
   -- "selection is refused exactly when no place is free or no such job exists", with 18, 19 or 20;
   pub refused : (c d : Cell) (o : Outcome) (s : Selection) → Does c Select (Chosen o s) d → RefusedSo c o
   -- 20 says what was missing, and something is missing exactly when there is no assignment;
   pub missing : (configuration : Configuration) (es : List Event) (c : Cell) → Reached configuration es c
-      → (d : Cell) (s : Selection) → Does c Select (Chosen (Refused NoAssignment) s) d → Missing c s
+      → (d : Cell) (s : Selection) → Does c Select (Chosen (Err NoAssignment) s) d → Missing c s
   pub exists : ExistsExactly
   -- but for that "a refused call returns the number alone"
-  pub alone : (c d : Cell) (s : Selection) (n : Refusal) → Does c Select (Chosen (Refused n) s) d
-      → (outcome_of s.choice ≡ Refused n) × ((s ≡ unselected s.choice s.first) × ((n ≡ NoAssignment → ⊥) → s.first ≡ no_id))
+  pub alone : (c d : Cell) (s : Selection) (n : Refusal) → Does c Select (Chosen (Err n) s) d
+      → (outcome_of s.choice ≡ Err n) × ((s ≡ unselected s.choice s.first) × ((n ≡ NoAssignment → ⊥) → s.first ≡ no_id))
   -- "Each message does what the existing call does": it is answered as that call is, and leaves the cell that it leaves
   pub typed : (c d : Cell) (message : List ℕ) (reply : Reply) (x : Call) → Does c (Key message) reply d → meant (Key message) ≡ some x
       → Does c x reply d
@@ -392,16 +385,16 @@ pub record Demand2 : Type 0 where
   -- that is in progress or stopping there, and each such packet is what its channel carries
   pub busy : (configuration : Configuration) (es : List Event) (c : Cell) → Reached configuration es c
       → (channel place packet : ℕ)
-      → (motion_on (inside c) channel ≡ Busy place packet
+      → (motion_on (inside c) channel ≡ Some (place, packet)
       → (in_motion (packet_in (inside c).jobs place packet).status ≡ true) × ((packet_in (inside c).jobs place packet).channel.0 ≡ channel))
       × (in_motion (packet_in (inside c).jobs place packet).status ≡ true
-      → motion_on (inside c) (packet_in (inside c).jobs place packet).channel.0 ≡ Busy place packet)
+      → motion_on (inside c) (packet_in (inside c).jobs place packet).channel.0 ≡ Some (place, packet))
   -- A call on packets, jobs, units or marks is told to the request lists as itself, with the answer that was replied,
   pub itself : (c d : Cell) (x : Act) (reply : Reply) → Does c (Do x) reply d
       → (a : Answer) × (reply ≡ Said a) × (told_of (Do x) reply ≡ record { call = Rules.Do x; answer = a } ∷ [])
   -- and a selection that is answered Done as the taking of its job, done.
-  pub selection : (c d : Cell) (s : Selection) → Does c Select (Chosen Done s) d
-      → told_of Select (Chosen Done s) ≡ taken_into s.place (assignment_of s.request.facilities s.assigned) ∷ []
+  pub selection : (c d : Cell) (s : Selection) → Does c Select (Chosen (Ok tt) s) d
+      → told_of Select (Chosen (Ok tt) s) ≡ taken_into s.place (assignment_of s.request.facilities s.assigned) ∷ []
   -- A call is told as none, one or several of theirs: these, each answered so, lead from the lists before it to those after
   pub leads : (c d : Cell) (x : Call) (reply : Reply) → Does c x reply d → Lists.Leads (inside c) (told_of x reply) (inside d)
   -- "packets end with the stated codes": over any history, after each of these that is accepted each packet's status is
@@ -434,13 +427,13 @@ pub record Demand2 : Type 0 where
   -- and a call of which the request lists are told nothing leaves all packets as they are,
   pub others : (c d : Cell) (x : Call) (reply : Reply) → Does c x reply d → told_of x reply ≡ [] → inside d ≡ inside c
   -- and that is the status that is shown, and nothing changes by it
-  pub shown : (c d : Cell) (place packet : ℕ) (status : Status) → Does c (Call.Status place packet) (Shown (Is status)) d
+  pub shown : (c d : Cell) (place packet : ℕ) (status : Status) → Does c (Call.Status place packet) (Shown (Ok status)) d
       → (status ≡ (packet_in (inside c).jobs place packet).status) × (d ≡ c)
   -- "For an ID the reader shall show us the request's own cards": what is shown is read as the first group of that ID in the
   -- repair deck, or where that has none in the day's
-  pub own_repair : (id repair day part : List ℕ) (r : Extent) → Shows id repair day r part → r.which ≡ Which'.Repair
+  pub own_repair : (id repair day part : List ℕ) (r : Extent) → Shows id repair day r part → r.which ≡ Ok Which'.Repair
       → (v : FirstOf id (deck_groups repair) r.from part) × (cards_of part ≡ v.own)
-  pub own_day : (id repair day part : List ℕ) (r : Extent) → Shows id repair day r part → r.which ≡ Which'.Day
+  pub own_day : (id repair day part : List ℕ) (r : Extent) → Shows id repair day r part → r.which ≡ Ok Which'.Day
       → NoneHas id (deck_groups repair) × ((v : FirstOf id (deck_groups day) r.from part) × (cards_of part ≡ v.own))
   -- "the second program": for each channel but the drum's its number and how many of its units are assignable in
   -- the fresh cell
@@ -508,7 +501,7 @@ pub record Demand3 : Type 0 where
   pub waits : (configuration : Configuration) (es : List Event) (c : Cell) → Reached configuration es c
       → (channel unit : ℕ) → is_returning (unit_in (inside c).units channel unit).holder ≡ true
       → (place packet : ℕ) × (held_by (unit_in (inside c).units channel unit).holder place ≡ true)
-      × (motion_on (inside c) channel ≡ Busy place packet)
+      × (motion_on (inside c) channel ≡ Some (place, packet))
       × ((packet_in (inside c).jobs place packet).at ≡ AtUnit (record { 0 = unit }))
       × ((packet_in (inside c).jobs place packet).status ≡ Stopping)
   -- "the unit is free when that completion comes", full, cut or failed,

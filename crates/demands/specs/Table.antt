@@ -1,7 +1,7 @@
 -- THE TABLE OF REFUSED CALLS. For each call it has the sentences that may refuse it, in the order of their numbers, and
 -- whether each of them holds. The lowest answers; 17, "checked before everything else", comes first, and where it holds
 -- there is no other sentence; 21 comes "after 3". A reader has to believe this page.
-use Rattle.std.specs.Prelude.{ℕ, ◌+◌, ◌≡◌, Bool, true, false, not, cond, ◌&&◌, ◌||◌, List, [], ◌∷◌, ◌++◌, ◌⊎◌, eqb, ltb, leb, length, get_or}
+use Rattle.std.specs.Prelude.{ℕ, ◌+◌, ◌≡◌, Bool, true, false, not, cond, ◌&&◌, ◌||◌, List, [], ◌∷◌, ◌++◌, ◌⊎◌, eqb, ltb, leb, length, get_or, None, Some}
 use Rattle.std.proofs.Math.Option.{Option, none, some}
 use Rattle.numbers.specs.Kinds.{is_drum}
 use Rattle.numbers.specs.declared.Refusal.{Refusal}
@@ -25,8 +25,6 @@ use Rattle.numbers.specs.declared.Refusal.TheVariants.{
   BeingReturned,
 }
 use Rattle.units.specs.State.{is_returning, unit_in}
-use Rattle.channels.specs.declared.Fitted.{Fitted}
-use Rattle.channels.specs.declared.Fitted.TheVariants.{Nothing, With}
 use Rattle.keyboard.specs.Messages.{message_words}
 use Rattle.keyboard.specs.Typed.{known}
 use Rattle.cards_fields.specs.Deck.{cards_of, terminated}
@@ -36,6 +34,7 @@ use Rattle.schedule_list.specs.InSchedule.{in_schedule}
 use Rattle.numbers.specs.Elements.{any, find}
 use Rattle.numbers.specs.Limits.{deck_bytes}
 use Rattle.packets.specs.State.{
+  Fitting,
   State,
   blank,
   configured,
@@ -82,10 +81,10 @@ lowest [] = none
 lowest (r ∷ rs) = cond r.holds (some r.refusal) (lowest rs)
 
 -- a channel has the unit, or is the drum channel, where no address is out of range
-abbrev pub has : Fitted → Spot → Bool
-has Nothing w = false
-has (With kind n) (OnUnit u) = not (is_drum kind) && (ltb u.0 16 && ltb u.0 n)
-has (With kind n) (OnDrum x h) = is_drum kind
+abbrev pub has : Fitting → Spot → Bool
+has None w = false
+has (Some on) (OnUnit u) = not (is_drum on.kind) && (ltb u.0 16 && ltb u.0 on.n)
+has (Some on) (OnDrum x h) = is_drum on.kind
 
 -- a unit is held by the job in place j; an address is of its area, or it has one, which is enough for 23
 abbrev pub is_the_jobs : State → ℕ → ℕ → ℕ → Spot → Bool
@@ -100,7 +99,7 @@ is_on_its_way s k (OnUnit u) = is_returning (unit_in s.units k u.0).holder
 is_on_its_way s k (OnDrum x h) = false
 
 -- a submission, by what the channel has: 1, 2, 3, 21, 4, 5
-abbrev pub submit_rows : State → Fitted → ℕ → ℕ → ℕ → ℕ → Spot → List Row
+abbrev pub submit_rows : State → Fitting → ℕ → ℕ → ℕ → ℕ → Spot → List Row
 submit_rows s on j p f k w =
     -- place, channel, unit, packet or function number out of range, or channel or unit not configured
     row OutOfRange (not (ltb j 16 && (ltb p 16 && (ltb f 0o100 && (ltb k 16 && has on w)))))
@@ -117,7 +116,7 @@ submit_rows s on j p f k w =
     ∷ []
 
 -- a unit's return, by what the channel has: 1, on the drum channel too, 2, 3, 21
-abbrev pub return_rows : State → Fitted → ℕ → ℕ → ℕ → List Row
+abbrev pub return_rows : State → Fitting → ℕ → ℕ → ℕ → List Row
 return_rows s on j k u =
     -- place, channel or unit number out of range, or channel or unit not configured: "a release on the drum channel gets 1"
     row OutOfRange (not (ltb j 16 && (ltb k 16 && has on (OnUnit (record { 0 = u })))))

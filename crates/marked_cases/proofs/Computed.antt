@@ -1,6 +1,7 @@
 -- A CELL THAT IS COMPUTED: what each call answers and leaves, as functions that compute. Whatever the contracts
 -- allow is what they compute, so that cases are shown by computing. Selection goes through the candidates with the
 -- computed assigner. Assumes nothing.
+use Rattle.std.proofs.Common.{None, Option, Some}
 use Prim.Native.Nat.{ℕ, zero, suc, ◌+◌, ◌≤◌, ◌<◌}
 use mathlib.Core.Path.{◌≡◌, refl, ap, ◌∙◌}
 use mathlib.Core.Bool.{Bool, true, false, cond, ◌&&◌}
@@ -22,15 +23,11 @@ use Rattle.assign.specs.Assignment as Assign
 use Rattle.assign.specs.Chosen.{Answer, nothing}
 use Rattle.assign.proofs.Computed.{assign-answers, assign_of}
 use Rattle.assign.specs.declared.Assigned.{Assigned}
-use Rattle.assign.specs.declared.Lacking.{Lacking}
-use Rattle.assign.specs.declared.Lacking.TheVariants.{Nothing, First}
 use Rattle.assign.specs.declared.Part.{Part}
 use Rattle.packets.specs.State.{is_empty, state_in}
 use Rattle.packets.specs.declared.Job.{Job}
 use Rattle.packets.specs.declared.Lists.{Lists}
 use Rattle.cell_taken.specs.Taken.{LowestFree}
-use Rattle.cell_taken.specs.declared.FreePlace.{FreePlace}
-use Rattle.cell_taken.specs.declared.FreePlace.TheVariants.{At, Full}
 use Rattle.cell_selection.specs.Selecting.{Selects, is_job, left_by, no_id, supply_in, unselected}
 use Rattle.cell_selection.specs.Noting.{Picks, PicksBy, PicksNone, at_then, lacking_then}
 use Rattle.cell_selection.proofs.SelectingLaws.{some-free}
@@ -45,27 +42,26 @@ use Rattle.cell.specs.declared.Cell.{Cell}
 use Rattle.cell.specs.declared.Heeded.{Heeded}
 use Rattle.cell.specs.declared.SelectAnswer.{SelectAnswer}
 use Rattle.cell_history.proofs.One.{selects-in-one}
-use Rattle.cell_history.specs.History.{Call, Chosen, Deck, Delete, Do, Does, Entered, Key, Release, Reply}
-use Rattle.cell_history.specs.History.{Said, Select, Shown, Status, reply_of as told_reply}
+use Rattle.cell_history.specs.History.{Call, Chosen, Deck, Delete, Do, Does, Entered, Key, Release, Reply, Said, Select, Shown, Status, reply_of as told_reply}
 
 -- ---- the first candidate with an assignment, or what the first of all lacks, of n from index k on
 
-abbrev or_next : ℕ → Lacking → Assigned → Lacking → ℕ → (Lacking → ℕ → Pick) → Pick
-or_next k Nothing a l at next = record { found = true; lacking = Nothing; at = k; assigned = a }
-or_next k (First part) a l at next = next (lacking_then l part) (at_then l at k)
+abbrev or_next : ℕ → Option Part → Assigned → Option Part → ℕ → (Option Part → ℕ → Pick) → Pick
+or_next k None a l at next = record { found = true; lacking = None; at = k; assigned = a }
+or_next k (Some part) a l at next = next (lacking_then l part) (at_then l at k)
 
-abbrev pick_from : List Entry → Assign.Supply → ℕ → ℕ → Lacking → ℕ → Pick
+abbrev pick_from : List Entry → Assign.Supply → ℕ → ℕ → Option Part → ℕ → Pick
 pick_from es cell zero k l at = record { found = false; lacking = l; at = at; assigned = nothing }
 pick_from es cell (suc n) k l at =
     let p = assign_of cell (entry_at es k).request.facilities in
     cond (candidate es (entry_at es k)) (or_next k p.lacking p.assigned l at (pick_from es cell n (k + 1))) (pick_from es cell n (k + 1) l at)
 
 abbrev pick_of : List Entry → Assign.Supply → Pick
-pick_of es cell = pick_from es cell (length es) 0 Nothing 0
+pick_of es cell = pick_from es cell (length es) 0 None 0
 
 module _ (es : List Entry) (cell : Assign.Supply) (size : length cell.channels ≡ 16)
     (full : (k : ℕ) → length (entry_at es k).request.facilities.units ≡ many) where
-  picks-from : (n k : ℕ) (x : Lacking) (at : ℕ) → k + n ≡ length es → Walked es cell x at k → Picks es cell (pick_from es cell n k x at)
+  picks-from : (n k : ℕ) (x : Option Part) (at : ℕ) → k + n ≡ length es → Walked es cell x at k → Picks es cell (pick_from es cell n k x at)
   picks-from zero k x at e w = walked_all es cell k w (omega arith) nothing refl
   picks-from (suc n) k x at e w =
       let p = assign_of cell (entry_at es k).request.facilities in
@@ -74,21 +70,21 @@ module _ (es : List Entry) (cell : Assign.Supply) (size : length cell.channels �
       (λ part. picks-from n (k + 1) (lacking_then x part) (at_then x at k) (omega arith))))
       (λ c. rw c (picks-from n (k + 1) x at (omega arith) (walk-past es cell k w (λ d. never d.1 c))))
     where
-      tried : candidate es (entry_at es k) ≡ true → (l : Lacking) (a : Assigned) → Answer l cell (entry_at es k).request.facilities a
+      tried : candidate es (entry_at es k) ≡ true → (l : Option Part) (a : Assigned) → Answer l cell (entry_at es k).request.facilities a
           → ((part : Part) → Walked es cell (lacking_then x part) (at_then x at k) (k + 1)
           → Picks es cell (pick_from es cell n (k + 1) (lacking_then x part) (at_then x at k)))
           → Picks es cell (or_next k l a x at (pick_from es cell n (k + 1)))
-      tried c Nothing a q next = (record { candidate = (omega arith, c); chosen = q; first = w.passed }, refl)
-      tried c (First part) a q next = next part (walk-lacks es cell k part (omega arith, c) q.0 w)
+      tried c None a q next = (record { candidate = (omega arith, c); chosen = q; first = w.passed }, refl)
+      tried c (Some part) a q next = next part (walk-lacks es cell k part (omega arith, c) q.0 w)
 
   pub picks : Picks es cell (pick_of es cell)
-  picks = picks-from (length es) 0 Nothing 0 (omega arith) (walk_start es cell)
+  picks = picks-from (length es) 0 None 0 (omega arith) (walk_start es cell)
 
 -- ---- the lowest free place, of n from place p on
 
-abbrev place_from : List Job → ℕ → ℕ → FreePlace
-place_from jobs zero p = Full
-place_from jobs (suc n) p = cond (is_empty (state_in jobs p)) (At p) (place_from jobs n (suc p))
+abbrev place_from : List Job → ℕ → ℕ → Option ℕ
+place_from jobs zero p = None
+place_from jobs (suc n) p = cond (is_empty (state_in jobs p)) (Some p) (place_from jobs n (suc p))
 
 place-from : (jobs : List Job) (n p : ℕ) → p + n ≡ 16 → ((q : ℕ) → q < p → is_empty (state_in jobs q) ≡ false) → LowestFree jobs (place_from jobs n p)
 place-from jobs zero p e before = λ q h. before q (omega arith)
@@ -105,9 +101,9 @@ place-from jobs (suc n) p e before =
 
 -- ---- selection
 
-abbrev unselected_by : Lacking → Schedule → Pick → Selection
-unselected_by Nothing schedule p = unselected NoCandidates no_id
-unselected_by (First part) schedule p = unselected (Lacks part) (entry_at (in_schedule schedule) p.at).request.id
+abbrev unselected_by : Option Part → Schedule → Pick → Selection
+unselected_by None schedule p = unselected NoCandidates no_id
+unselected_by (Some part) schedule p = unselected (Lacks part) (entry_at (in_schedule schedule) p.at).request.id
 
 abbrev selected_by : Bool → Schedule → ℕ → Pick → Selection
 selected_by true schedule place p =
@@ -124,9 +120,9 @@ selected_by false schedule place p = unselected_by p.lacking schedule p
 abbrev selected_as : Schedule → ℕ → Pick → Selection
 selected_as schedule place p = selected_by p.found schedule place p
 
-abbrev selection_by : Schedule → Lists → FreePlace → Selection
-selection_by schedule lists Full = unselected NoPlace no_id
-selection_by schedule lists (At place) = selected_as schedule place (pick_of (in_schedule schedule) (supply_in lists))
+abbrev selection_by : Schedule → Lists → Option ℕ → Selection
+selection_by schedule lists None = unselected NoPlace no_id
+selection_by schedule lists (Some place) = selected_as schedule place (pick_of (in_schedule schedule) (supply_in lists))
 
 abbrev pub selection_of : Schedule → Lists → Selection
 selection_of schedule lists = selection_by schedule lists (place_from lists.jobs 16 0)
@@ -163,20 +159,20 @@ module _ (c : Cell) (s : sized c ≡ true) where
       picks (in_schedule c.schedule) (supply_in c.lists) (eqb-true (length c.lists.channels) 16 parts.0)
       (counts-full (in_schedule c.schedule) parts.1)
 
-  module _ (place : ℕ) (l : LowestFree c.lists.jobs (At place)) (p : Pick) where
-    by-lack : (x : Lacking) → PicksNone x (in_schedule c.schedule) (supply_in c.lists) p
+  module _ (place : ℕ) (l : LowestFree c.lists.jobs (Some place)) (p : Pick) where
+    by-lack : (x : Option Part) → PicksNone x (in_schedule c.schedule) (supply_in c.lists) p
         → Selects c.schedule c.lists (unselected_by x c.schedule p)
-    by-lack Nothing w = ((some-free c.lists l, (w.0, refl)), refl)
-    by-lack (First part) w = ((some-free c.lists l, (w.0, (p.at, (w.1.0, refl)))), refl)
+    by-lack None w = ((some-free c.lists l, (w.0, refl)), refl)
+    by-lack (Some part) w = ((some-free c.lists l, (w.0, (p.at, (w.1.0, refl)))), refl)
 
     selects_at : (found : Bool) → PicksBy found (in_schedule c.schedule) (supply_in c.lists) p
         → Selects c.schedule c.lists (selected_by found c.schedule place p)
     selects_at true w = record { place = l; fit = w.0; request = refl; unnamed = refl }
     selects_at false w = by-lack p.lacking w
 
-  selects-by : (f : FreePlace) → LowestFree c.lists.jobs f → Selects c.schedule c.lists (selection_by c.schedule c.lists f)
-  selects-by Full l = ((l, refl), refl)
-  selects-by (At place) l =
+  selects-by : (f : Option ℕ) → LowestFree c.lists.jobs f → Selects c.schedule c.lists (selection_by c.schedule c.lists f)
+  selects-by None l = ((l, refl), refl)
+  selects-by (Some place) l =
       let p = pick_of (in_schedule c.schedule) (supply_in c.lists) in selects_at place l p p.found picked
 
   pub selects : SelectsIn c (select_of c)

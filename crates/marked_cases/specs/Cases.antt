@@ -1,11 +1,10 @@
 -- THE MARKED CASES K1 TO K9 of document 01, one list, and what it is that each holds. A reader has to believe this
 -- page.
-use Rattle.std.specs.Prelude.{ℕ, ◌+◌, ◌-◌, ◌≡◌, cond, false, List, [], ◌∷◌, ◌++◌, eqb, set}
+use Rattle.std.specs.Prelude.{ℕ, ◌+◌, ◌-◌, ◌≡◌, cond, false, List, [], ◌∷◌, ◌++◌, eqb, set, Err, Ok}
 use Rattle.numbers.specs.declared.ChannelNumber.{ChannelNumber}
 use Rattle.numbers.specs.Quoted.{bytes}
 use Rattle.numbers.specs.Kinds.{order_of}
 use Rattle.numbers.specs.declared.Kind.TheVariants.{Mt, Md}
-use Rattle.numbers.specs.declared.Outcome.TheVariants as Outcomes
 use Rattle.numbers.specs.declared.Refusal.{Refusal}
 use Rattle.numbers.specs.declared.Refusal.TheVariants.{NoAssignment}
 use Rattle.numbers.specs.Limits.{most_words}
@@ -17,10 +16,8 @@ use Rattle.channels.specs.declared.Channel.{Channel}
 use Rattle.channels.specs.declared.Configuration.{Configuration}
 use Rattle.words.specs.Lines.{lf}
 use Rattle.cards_fields.specs.Deck.{termination}
-use Rattle.cards_request.specs.Errors.{error_number}
+use Rattle.cards_request.specs.Errors.{error_number, CardVerdict}
 use Rattle.cards_group.specs.Group.{read_group}
-use Rattle.cards_request.specs.declared.CardVerdict.{CardVerdict}
-use Rattle.cards_request.specs.declared.CardVerdict.TheVariants.{Good, Wrong}
 use Rattle.schedule_deck.specs.Report.{deck_text}
 use Rattle.assign_channels.specs.Choice.{on}
 use Rattle.assign.specs.Assignment.{channels_of}
@@ -38,7 +35,6 @@ use Rattle.cell_selection.specs.declared.Choice.TheVariants.{Job, NoPlace, NoCan
 use Rattle.cell_selection.specs.declared.Selection.{Selection}
 use Rattle.cell.specs.Calls.{fresh_cell}
 use Rattle.cell.specs.declared.Cell.{Cell}
-use Rattle.lists.specs.declared.StatusAnswer.TheVariants as StatusAnswers
 use Rattle.cell_history.specs.Told.{inside}
 use Rattle.keyboard.specs.declared.Fault.{Fault}
 use Rattle.cell_history.specs.History.{Call, Chosen, Deck, Do, Does, Entered, Reply, Said, Select}
@@ -75,13 +71,13 @@ missing n id NoCandidates = Refused n
 missing n id (Lacks part) = Missing n id part
 
 abbrev pub seen : Reply → Seen
-seen (Entered Outcomes.Done) = Accepted
-seen (Entered (Outcomes.Refused n)) = Refused n
-seen (Chosen Outcomes.Done s) = given s
-seen (Chosen (Outcomes.Refused n) s) = missing n s.first s.choice
+seen (Entered (Ok u)) = Accepted
+seen (Entered (Err n)) = Refused n
+seen (Chosen (Ok u) s) = given s
+seen (Chosen (Err n) s) = missing n s.first s.choice
 seen (Said a) = Answered a
-seen (Reply.Shown (StatusAnswers.Is status)) = Accepted
-seen (Reply.Shown (StatusAnswers.Refused n)) = Refused n
+seen (Reply.Shown (Ok status)) = Accepted
+seen (Reply.Shown (Err n)) = Refused n
 seen (Reply.Mistyped fault) = Faulty fault
 
 -- ---- the cases
@@ -111,8 +107,8 @@ pub data Case : Type 0 where
 
 -- the number of a group's card error; 0 without
 abbrev pub number_in : CardVerdict → ℕ
-number_in Good = 0
-number_in (Wrong e) = error_number e
+number_in (Ok u) = 0
+number_in (Err e) = error_number e
 
 -- calls one after the other: whatever reply and cell the contracts allow, this is seen. That there is a reply is what
 -- the check of `cell` says

@@ -1,5 +1,5 @@
 -- `cell::answer_of` meets its contract. Assumes nothing.
 use Rattle.cell.proofs.answer_of.Goals as goal
 
-pub returns-in-Refused : goal.returns-in-Refused
-returns-in-Refused c = rw c.in-Refused.is
+pub returns-in-Err : goal.returns-in-Err
+returns-in-Err c = rw c.in-Err.is

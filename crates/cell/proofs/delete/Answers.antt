@@ -1,5 +1,6 @@
 -- `cell::delete` meets its contract. Assumes nothing.
+use mathlib.Core.Path.{◌∙◌}
 use Rattle.cell.proofs.delete.Goals as goal
 
 pub returns : goal.returns
-returns c = rw (c.answer_of.ensures, c.delete-changed.ensures)
+returns c = c.with_change.ensures ∙ rw c.delete.ensures

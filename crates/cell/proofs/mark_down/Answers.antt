@@ -10,8 +10,8 @@ use Rattle.packets.specs.Rules.{Do, answer, refusal}
 use Rattle.packets.specs.declared.Act.TheVariants.{Mark}
 use Rattle.packets.specs.declared.Acted.{Acted}
 use Rattle.packets.specs.declared.Lists.{Lists}
-use Rattle.packets.specs.declared.Verdict.{Verdict}
-use Rattle.packets.specs.declared.Verdict.TheVariants.{Denied, Granted}
+use Rattle.std.specs.Prelude.{Ok, Err}
+use Rattle.packets.specs.State.{Verdict}
 use Rattle.lists.specs.Outcomes.{outcome, settled, state_of}
 use Rattle.cell.specs.Calls.{acted, cell_of, followed}
 use Rattle.cell.specs.declared.Answered.{Answered}
@@ -24,8 +24,8 @@ unfolding outcome answer
 stays s lists c u m on = by (refusal (state_of lists) (Do (Mark c u m on)))
   where
     by : (v : Verdict) → followed s (settled lists (Do (Mark c u m on)) v).answer ≡ s
-    by Granted = refl
-    by (Denied n) = refl
+    by (Ok u) = refl
+    by (Err n) = refl
 
 -- the lists' outcome beside a schedule
 abbrev with : Schedule → Acted → Answered

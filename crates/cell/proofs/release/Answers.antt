@@ -1,5 +1,6 @@
 -- `cell::release` meets its contract. Assumes nothing.
+use mathlib.Core.Path.{◌∙◌}
 use Rattle.cell.proofs.release.Goals as goal
 
 pub returns : goal.returns
-returns c = rw (c.answer_of.ensures, c.release-changed.ensures)
+returns c = c.with_change.ensures ∙ rw c.release.ensures
