@@ -27,13 +27,12 @@ use Rattle.units.specs.declared.Holder.TheVariants.{Free, Held, Returning}
 use Rattle.units.specs.declared.Unit.{Unit as UnitState}
 use Rattle.channels.specs.Channels.{no_channel, units_of}
 use Rattle.channels.specs.declared.Channel.{Channel}
-use Rattle.packets.specs.State.{job_in, place_of, packet_of, blank as no_packet}
+use Rattle.packets.specs.State.{Motion, job_in, place_of, packet_of, blank as no_packet}
 use Rattle.packets.specs.declared.Job.{Job}
 use Rattle.packets.specs.declared.JobState.{JobState}
 use Rattle.packets.specs.declared.JobState.TheVariants as J
 use Rattle.packets.specs.declared.Packet.{Packet}
-use Rattle.packets.specs.declared.Motion.{Motion}
-use Rattle.packets.specs.declared.Motion.TheVariants.{Idle, Busy}
+use Rattle.std.specs.Prelude.{None, Some}
 use Rattle.packets.specs.declared.Lists.{Lists}
 use Rattle.answer_pieces.specs.Pieces.{packet_text, word_text}
 use Rattle.answer_pieces.proofs.PieceLaws.{each-bound, of-bound}
@@ -55,8 +54,8 @@ ByteHolder (Held p) = p < 256
 ByteHolder (Returning p) = p < 256
 
 abbrev pub ByteMotion : Motion → Type 0
-ByteMotion Idle = Unit {0}
-ByteMotion (Busy p k) = (p < 256) × (k < 256)
+ByteMotion None = Unit {0}
+ByteMotion (Some (p, k)) = (p < 256) × (k < 256)
 
 pub record InTypes (lists : Lists) (schedule : Schedule) : Type 0 where
   pub entries : length schedule.entries ≤ most_requests
@@ -142,8 +141,8 @@ line-few-of word c p k d h =
     omega (arith, length-append word (two_text c ++ (bytes " " ++ (packet_text p k ++ bytes "\n"))), length-append (packet_text p k) (bytes "\n"))
 
 motion-few : (c : ℕ) (m : Motion) → ByteMotion m → length (motion_text c m) ≤ 17
-motion-few c Idle b = omega arith
-motion-few c (Busy p k) b =
+motion-few c None b = omega arith
+motion-few c (Some (p, k)) b =
     line-few-of (bytes "MOVES ") c p k 7
     (omega (
       arith,

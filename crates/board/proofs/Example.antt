@@ -25,7 +25,7 @@ use Rattle.packets.specs.declared.Site.TheVariants.{AtUnit}
 use Rattle.packets.specs.declared.Status.TheVariants.{Listed, Stopping}
 use Rattle.packets.specs.declared.JobState.TheVariants.{Running}
 use Rattle.packets.specs.declared.Job.{Job}
-use Rattle.packets.specs.declared.Motion.TheVariants.{Busy}
+use Rattle.std.specs.Prelude.{None, Some}
 use Rattle.packets.specs.declared.Lists.{Lists}
 use Rattle.answer_pieces.specs.Pieces.{each_from, each_of}
 use Rattle.board_jobs.specs.Places.{id_in}
@@ -86,7 +86,7 @@ lists =
       codes = 0;
       jobs = job ∷ replicate 15 no_job;
       list = record { entries = 1 ∷ replicate 255 0; count = 1 };
-      moving = set (replicate 16 idle) 3 (record { motion = Busy 0 0 });
+      moving = set (replicate 16 idle) 3 (record { motion = Some (0, 0) });
       units = record {
         of = unit_set (unit_set (unit_set (unit_set none_held 3 0 (unit (Returning 0) true false)) 3 1 (unit (Held 0) false true)) 3 2
             (unit (Held 0) false false))

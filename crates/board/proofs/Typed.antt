@@ -24,15 +24,13 @@ use Rattle.units.specs.declared.Units.{Units}
 use Rattle.units.specs.contracts.Holder as Holder'
 use Rattle.units.specs.contracts.Unit as Unit'
 use Rattle.units.specs.contracts.Units as Units'
-use Rattle.packets.specs.State.{no_job}
-use Rattle.packets.specs.declared.Motion.{Motion}
-use Rattle.packets.specs.declared.Motion.TheVariants.{Idle, Busy}
+use Rattle.packets.specs.State.{Motion, no_job}
+use Rattle.std.specs.Prelude.{None, Some}
 use Rattle.packets.specs.declared.Lists.{Lists}
 use Rattle.packets.specs.contracts.Job as Job'
-use Rattle.packets.specs.contracts.Motion as Motion'
 use Rattle.packets.specs.contracts.Carrier as Carrier'
 use Rattle.packets.specs.contracts.Lists as Lists'
-use Rattle.cards_further.proofs.Elements.{Some, everywhere, everywhere_row, long_row}
+use Rattle.cards_further.proofs.Elements.{Some as Owned, everywhere, everywhere_row, long_row}
 use Rattle.board_lists.specs.Lines.{idle}
 use Rattle.text.specs.Room.{Written}
 use Rattle.text.proofs.RoomLaws.{fitted}
@@ -40,26 +38,26 @@ use Rattle.board.specs.Board.{board_text, Boarded}
 use Rattle.board.proofs.Bounds.{ByteHolder, ByteMotion, InTypes, board-bound}
 
 -- ---- the types in their turn
-holder-byte : (h : Holder) → Some Holder'.the_field h → ByteHolder h
+holder-byte : (h : Holder) → Owned Holder'.the_field h → ByteHolder h
 holder-byte Free s = tt
 holder-byte (Held p) s = s.1.1.1.1.1.0.1
 holder-byte (Returning p) s = s.1.1.1.1.1.0.1
 
-motion-bytes : (m : Motion) → Some Motion'.the_field m → ByteMotion m
-motion-bytes Idle s = tt
-motion-bytes (Busy p k) s = (s.1.1.1.1.1.0.1, s.1.1.1.1.1.1.0.1)
+motion-bytes : (m : Motion) → Owned (row_field Carrier'.the_row) (record { motion = m }) → ByteMotion m
+motion-bytes None s = tt
+motion-bytes (Some (p, k)) s = (omega arith, omega arith)
 
-unit-byte : (unit : UnitState) → Some Unit'.the_field unit → ByteHolder unit.holder
+unit-byte : (unit : UnitState) → Owned Unit'.the_field unit → ByteHolder unit.holder
 unit-byte unit s = holder-byte unit.holder (s.1.0.0, s.1.1.1.0)
 
-row-bytes : (row : List UnitState) → Some (array_field Unit'.the_field 16) row → (u : ℕ) → ByteHolder (get_or row u (fresh_unit false)).holder
+row-bytes : (row : List UnitState) → Owned (array_field Unit'.the_field 16) row → (u : ℕ) → ByteHolder (get_or row u (fresh_unit false)).holder
 row-bytes row s u = everywhere Unit'.the_field 16 (λ unit. ByteHolder unit.holder) row s.0 s.1 unit-byte (fresh_unit false) tt u
 
 -- the same of a unit and of a row of them by their own rows
-unit_row-byte : (unit : UnitState) → Some (row_field Unit'.the_row) unit → ByteHolder unit.holder
+unit_row-byte : (unit : UnitState) → Owned (row_field Unit'.the_row) unit → ByteHolder unit.holder
 unit_row-byte unit s = holder-byte unit.holder (s.1.0.0, s.1.1.1.0)
 
-row_row-bytes : (row : List UnitState) → Some (row_field (Array Unit'.the_row 16)) row → (u : ℕ) → ByteHolder (get_or row u (fresh_unit false)).holder
+row_row-bytes : (row : List UnitState) → Owned (row_field (Array Unit'.the_row 16)) row → (u : ℕ) → ByteHolder (get_or row u (fresh_unit false)).holder
 row_row-bytes row s u = everywhere_row Unit'.the_row 16 (λ unit. ByteHolder unit.holder) row s.0 s.1 unit_row-byte (fresh_unit false) tt u
 
 grid-bytes : (units : Units) (vs : List Val) → Is Units'.the_row units vs → (c u : ℕ) → ByteHolder (unit_in units.of c u).holder
@@ -68,10 +66,10 @@ grid-bytes units vs p c =
     everywhere_row (Array Unit'.the_row 16) 16 (λ row. (u : ℕ) → ByteHolder (get_or row u (fresh_unit false)).holder) units.of p.0.0
     p.1.1.0 row_row-bytes [] (λ u. tt) c
 
-short : (e : Entry) → Some Entry'.the_field e → length e.request.id ≤ 6
+short : (e : Entry) → Owned Entry'.the_field e → length e.request.id ≤ 6
 short e s = let l : length e.request.id ≡ 6 = long_row u8 6 e.request.id _ s.1.1.1.0.1.1.0 in omega arith
 
-short_row : (e : Entry) → Some (row_field Entry'.the_row) e → length e.request.id ≤ 6
+short_row : (e : Entry) → Owned (row_field Entry'.the_row) e → length e.request.id ≤ 6
 short_row e s = let l : length e.request.id ≡ 6 = long_row u8 6 e.request.id _ s.1.1.1.0.1.1.0 in omega arith
 
 -- ---- and the whole
@@ -90,7 +88,7 @@ typed lists schedule vs us p q =
       areas = everywhere_row Job'.the_row 16 (λ j. (j.from < 2 ^ 32) × (j.words < 2 ^ 32)) lists.jobs _ jobs
           (λ j s. (s.1.1.1.1.1.0.1, s.1.1.1.1.1.1.0.1)) no_job (omega arith, omega arith);
       motions = everywhere_row Carrier'.the_row 16 (λ c. ByteMotion c.motion) lists.moving _ moving
-          (λ c s. motion-bytes c.motion (s.1.0.0, s.1.1.1.0)) idle tt;
+          (λ c s. motion-bytes c.motion s) idle tt;
       queue = let l : length lists.list.entries ≡ 256 = long_row u8 256 lists.list.entries _ list.1.1.0 in omega arith;
       packets = everywhere_row u8 256 (λ e. e < 256) lists.list.entries _ list.1.1.0 (λ e s. s.1.1) 0 (omega arith);
     }

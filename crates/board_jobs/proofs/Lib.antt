@@ -1,1 +1,1 @@
-pub mod Loops
+pub mod Searches

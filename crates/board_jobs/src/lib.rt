@@ -1,9 +1,14 @@
 // The board's lines of places and of core.
 #![tactic(auto)]
 
-ghost use Rattle.std.specs.Prelude.{◌≡◌, ◌<◌, take};
+ghost use Rattle.std.specs.Prelude.{◌≡◌, ◌<◌};
+ghost use Rattle.std.specs.List.{find, position};
+ghost use Rattle.std.specs.Option.{option_map};
+ghost use Rattle.schedule_entries.specs.Entries.{in_place};
+ghost use Rattle.schedule_entries.specs.declared.Entry.{Entry};
+ghost use Rattle.packets.specs.declared.Job.{Job};
 ghost use Rattle.packets.specs.State.{in_run, is_empty};
-ghost use Rattle.text.specs.Room.{Written};
+ghost use Rattle.text.specs.Room.{Puts};
 ghost use Rattle.board_jobs.specs.Places.{job_text, place_text, id_in, places_text};
 ghost use Rattle.board_jobs.specs.Blocks.{holds_block, digit, holder_in, block_byte, blocks_text, core_text};
 
@@ -11,70 +16,59 @@ use cards_fields::parts;
 use numbers::limits;
 use packets::{Blocks, Core, Job, JobState};
 use schedule_entries::Entry;
+use text::room::Room;
+
+// The first request whose job is in a place.
+fn request_in(entries: &[Entry], place: u8) -> Option<&Entry>
+    ensures { option_map (λ e. e.now) result ≡ find (λ (e : Entry). in_place place e.state) entries.now }
+{
+    entries
+        .iter()
+        .find(|e| schedule_entries::is_in_place(e.state, place))
+}
 
 // The ID of the request whose job is in a place; blanks where there is none.
-fn id_in(entries: [Entry; limits::MOST_REQUESTS], count: usize, place: u8) -> [u8; 6]
-    ensures { result ≡ id_in (take count entries) place }
+fn id_in(entries: &[Entry], place: u8) -> [u8; 6]
+    ensures { result ≡ id_in entries.now place }
 {
-    let mut i: usize = 0;
-    while i < limits::MOST_REQUESTS {
-        if count <= i {
-            return [b' '; 6];
-        }
-        let entry = entries[i];
-        let state = entry.state;
-        if schedule_entries::is_in_place(state, place) {
-            let request = entry.request;
-            return request.id;
-        }
-        i += 1;
+    match request_in(entries, place) {
+        Some(entry) => entry.request.id,
+        None => [b' '; 6],
     }
-    [b' '; 6]
 }
 
 // Puts a place, its job's ID and what the job does.
-fn put_job(out: &mut [u8], at: usize, place: u8, id: [u8; 6], word: &[u8]) -> usize
-    ensures { Written out.old at (job_text place id word.now) out.new result }
+fn put_job(out: &mut Room, place: u8, id: [u8; 6], word: &[u8])
+    ensures { Puts out.old (job_text place id word.now) out.new }
 {
-    let title = text::put_bytes(out, at, b"PLACE ");
-    let number = text::put_decimal(out, title, place as u64);
-    let space = text::put_byte(out, number, b' ');
-    let name = parts::put_name(out, space, &id);
-    text::put_bytes(out, name, word)
+    out.put_bytes(b"PLACE ");
+    out.put_decimal(place as u64);
+    out.put_byte(b' ');
+    parts::put_name(out, &id);
+    out.put_bytes(word);
 }
 
 // Puts the line of a place, nothing where it is empty.
-fn put_place(out: &mut [u8], at: usize, place: u8, id: [u8; 6], state: JobState) -> usize
-    ensures { Written out.old at (place_text place id state) out.new result }
+fn put_place(out: &mut Room, place: u8, id: [u8; 6], state: JobState)
+    ensures { Puts out.old (place_text place id state) out.new }
 {
     match state {
-        JobState::Empty => at,
-        JobState::Running => put_job(out, at, place, id, b" RUNS\n"),
-        JobState::ClosingNormal => put_job(out, at, place, id, b" CLOSES\n"),
-        JobState::ClosingError => put_job(out, at, place, id, b" CLOSES\n"),
+        JobState::Empty => {}
+        JobState::Running => put_job(out, place, id, b" RUNS\n"),
+        JobState::ClosingNormal | JobState::ClosingError => {
+            put_job(out, place, id, b" CLOSES\n")
+        }
     }
 }
 
-// Puts the lines of the places that have a job, by the first `count` entries of the schedule.
-pub fn put_places(
-    out: &mut [u8],
-    at: usize,
-    jobs: [Job; 16],
-    entries: [Entry; limits::MOST_REQUESTS],
-    count: usize,
-) -> usize
-    ensures { Written out.old at (places_text jobs (take count entries)) out.new result }
+// Puts the lines of the places that have a job, by the requests of the schedule.
+pub fn put_places(out: &mut Room, jobs: [Job; 16], entries: &[Entry])
+    ensures { Puts out.old (places_text jobs entries.now) out.new }
 {
-    let mut next = at;
-    let mut p: usize = 0;
-    while p < 16 {
-        let job = jobs[p];
-        let state = job.state;
-        let id = id_in(entries, count, p as u8);
-        next = put_place(out, next, p as u8, id, state);
-        p += 1;
+    for (p, job) in jobs.iter().enumerate() {
+        let id = id_in(entries, p as u8);
+        put_place(out, p as u8, id, job.state);
     }
-    next
 }
 
 // Whether a block is in a run.
@@ -88,12 +82,7 @@ fn is_in(run: Blocks, block: u8) -> bool
 fn holds(state: JobState, core: Core, block: u8) -> bool
     ensures { result ≡ holds_block state core block }
 {
-    if packets_job::is_empty(state) {
-        return false;
-    }
-    let ib = core.ib;
-    let db = core.db;
-    is_in(ib, block) || is_in(db, block)
+    !packets_job::is_empty(state) && (is_in(core.ib, block) || is_in(core.db, block))
 }
 
 // A place's digit in base 36.
@@ -107,21 +96,21 @@ fn digit(place: u8) -> u8
     b'A' + (place - 10)
 }
 
+// The lowest place whose job holds a block.
+fn place_holding(jobs: &[Job], block: u8) -> Option<usize>
+    ensures { result ≡ position (λ (j : Job). holds_block j.state j.core block) jobs.now }
+{
+    jobs.iter().position(|j| holds(j.state, j.core, block))
+}
+
 // The digit of the lowest place whose job holds a block, a point where none does.
 fn holder_in(jobs: [Job; 16], block: u8) -> u8
     ensures { result ≡ holder_in 0 jobs block }
 {
-    let mut p: usize = 0;
-    while p < 16 {
-        let job = jobs[p];
-        let state = job.state;
-        let core = job.core;
-        if holds(state, core, block) {
-            return digit(p as u8);
-        }
-        p += 1;
+    match place_holding(&jobs, block) {
+        Some(p) => digit(p as u8),
+        None => b'.',
     }
-    b'.'
 }
 
 // What stands for a block.
@@ -138,23 +127,19 @@ fn block_byte(jobs: [Job; 16], block: u8) -> u8
 }
 
 // Puts what stands for each of the 32 blocks.
-fn put_blocks(out: &mut [u8], at: usize, jobs: [Job; 16]) -> usize
-    ensures { Written out.old at (blocks_text jobs) out.new result }
+fn put_blocks(out: &mut Room, jobs: [Job; 16])
+    ensures { Puts out.old (blocks_text jobs) out.new }
 {
-    let mut next = at;
-    let mut b: u8 = 0;
-    while b < limits::BLOCKS {
-        next = text::put_byte(out, next, block_byte(jobs, b));
-        b += 1;
+    for b in 0..limits::BLOCKS {
+        out.put_byte(block_byte(jobs, b));
     }
-    next
 }
 
 // Puts the line of core.
-pub fn put_core(out: &mut [u8], at: usize, jobs: [Job; 16]) -> usize
-    ensures { Written out.old at (core_text jobs) out.new result }
+pub fn put_core(out: &mut Room, jobs: [Job; 16])
+    ensures { Puts out.old (core_text jobs) out.new }
 {
-    let word = text::put_bytes(out, at, b"CORE ");
-    let blocks = put_blocks(out, word, jobs);
-    text::put_byte(out, blocks, b'\n')
+    out.put_bytes(b"CORE ");
+    put_blocks(out, jobs);
+    out.put_byte(b'\n');
 }

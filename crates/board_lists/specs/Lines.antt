@@ -1,5 +1,5 @@
 -- The board's lines of moving packets, of listed packets and of requests.
-use Rattle.std.specs.Prelude.{ℕ, List, [], ◌++◌, get_or}
+use Rattle.std.specs.Prelude.{ℕ, None, Some, List, [], ◌++◌, get_or}
 use Rattle.numbers.specs.Quoted.{bytes}
 use Rattle.text.specs.Writing.{two_text}
 use Rattle.cards_fields.specs.Fields.{spaceless}
@@ -7,11 +7,9 @@ use Rattle.cards_writing.specs.Writing.{priority_text}
 use Rattle.schedule_entries.specs.declared.State.{State}
 use Rattle.schedule_entries.specs.declared.State.TheVariants.{Waiting, Suspended, Running, Closing}
 use Rattle.schedule_entries.specs.declared.Entry.{Entry}
-use Rattle.packets.specs.State.{place_of, packet_of, blank, job_in}
+use Rattle.packets.specs.State.{Motion, place_of, packet_of, blank, job_in}
 use Rattle.packets.specs.declared.Packet.{Packet}
 use Rattle.packets.specs.declared.Job.{Job}
-use Rattle.packets.specs.declared.Motion.{Motion}
-use Rattle.packets.specs.declared.Motion.TheVariants.{Idle, Busy}
 use Rattle.packets.specs.declared.Carrier.{Carrier}
 use Rattle.answer_pieces.specs.Pieces.{packet_text, each, each_of}
 
@@ -21,11 +19,11 @@ line_text word channel place packet = word ++ (two_text channel ++ (bytes " " ++
 
 -- what moves on a channel
 abbrev pub motion_text : ℕ → Motion → List ℕ
-motion_text channel Idle = []
-motion_text channel (Busy place packet) = line_text (bytes "MOVES ") channel place packet
+motion_text channel None = []
+motion_text channel (Some (place, packet)) = line_text (bytes "MOVES ") channel place packet
 
 abbrev pub idle : Carrier
-idle = record { motion = Idle }
+idle = record { motion = None }
 
 -- "for each channel, ascending, that has a packet in progress or stopping: `MOVES cc p k`"
 abbrev pub moves_text : List Carrier → List ℕ

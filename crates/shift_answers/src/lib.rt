@@ -2,17 +2,18 @@
 #![tactic(auto)]
 
 ghost use Rattle.std.specs.Prelude.{◌≡◌};
-ghost use Rattle.text.specs.Room.{Written};
+ghost use Rattle.text.specs.Room.{Puts};
 ghost use Rattle.shift_answers.specs.AnswerLines.{done_text, number_at, started_text, completed_text};
 ghost use Rattle.shift_answers.specs.AnswerLines.{status_word, status_text, no_call_text};
 
 use packets::{Begun, Site, Status};
+use text::room::Room;
 
 // A call that answers nothing else.
-pub fn put_done(out: &mut [u8], at: usize) -> usize
-    ensures { Written out.old at done_text out.new result }
+pub fn put_done(out: &mut Room)
+    ensures { Puts out.old done_text out.new }
 {
-    text::put_bytes(out, at, b"ACK\n")
+    out.put_bytes(b"ACK\n");
 }
 
 // The number of the unit, or the address.
@@ -26,57 +27,57 @@ fn number_at(at: Site) -> u32
 }
 
 // A start: place, packet, function, unit or address.
-pub fn put_started(out: &mut [u8], at: usize, begun: Begun) -> usize
-    ensures { Written out.old at (started_text begun) out.new result }
+pub fn put_started(out: &mut Room, begun: Begun)
+    ensures { Puts out.old (started_text begun) out.new }
 {
     let place = begun.at;
     let number = number_at(place);
-    let word = text::put_bytes(out, at, b"ACK ");
-    let packet = answer_pieces::put_packet(out, word, begun.place, begun.packet);
-    let space = text::put_byte(out, packet, b' ');
-    let function = answer_pieces::put_octal(out, space, begun.function);
-    let gap = text::put_byte(out, function, b' ');
-    let spot = text::put_decimal(out, gap, number as u64);
-    text::put_byte(out, spot, b'\n')
+    out.put_bytes(b"ACK ");
+    answer_pieces::put_packet(out, begun.place, begun.packet);
+    out.put_byte(b' ');
+    answer_pieces::put_octal(out, begun.function);
+    out.put_byte(b' ');
+    out.put_decimal(number as u64);
+    out.put_byte(b'\n');
 }
 
 // A completion: the place and number of the packet that it ends.
-pub fn put_completed(out: &mut [u8], at: usize, place: u8, packet: u8) -> usize
-    ensures { Written out.old at (completed_text place packet) out.new result }
+pub fn put_completed(out: &mut Room, place: u8, packet: u8)
+    ensures { Puts out.old (completed_text place packet) out.new }
 {
-    let word = text::put_bytes(out, at, b"ACK ");
-    let next = answer_pieces::put_packet(out, word, place, packet);
-    text::put_byte(out, next, b'\n')
+    out.put_bytes(b"ACK ");
+    answer_pieces::put_packet(out, place, packet);
+    out.put_byte(b'\n');
 }
 
 // The word for a packet's status; an ended one's with its code.
-fn put_status_word(out: &mut [u8], at: usize, status: Status) -> usize
-    ensures { Written out.old at (status_word status) out.new result }
+fn put_status_word(out: &mut Room, status: Status)
+    ensures { Puts out.old (status_word status) out.new }
 {
     match status {
-        Status::Blank => text::put_bytes(out, at, b"BLANK"),
-        Status::Listed => text::put_bytes(out, at, b"LISTED"),
-        Status::InProgress => text::put_bytes(out, at, b"MOVING"),
-        Status::Stopping => text::put_bytes(out, at, b"STOPPING"),
+        Status::Blank => out.put_bytes(b"BLANK"),
+        Status::Listed => out.put_bytes(b"LISTED"),
+        Status::InProgress => out.put_bytes(b"MOVING"),
+        Status::Stopping => out.put_bytes(b"STOPPING"),
         Status::Ended(code) => {
-            let word = text::put_bytes(out, at, b"ENDED ");
-            answer_pieces::put_octal(out, word, code)
+            out.put_bytes(b"ENDED ");
+            answer_pieces::put_octal(out, code)
         }
     }
 }
 
 // A packet's status.
-pub fn put_status(out: &mut [u8], at: usize, status: Status) -> usize
-    ensures { Written out.old at (status_text status) out.new result }
+pub fn put_status(out: &mut Room, status: Status)
+    ensures { Puts out.old (status_text status) out.new }
 {
-    let word = text::put_bytes(out, at, b"ACK ");
-    let next = put_status_word(out, word, status);
-    text::put_byte(out, next, b'\n')
+    out.put_bytes(b"ACK ");
+    put_status_word(out, status);
+    out.put_byte(b'\n');
 }
 
 // A line that is no call.
-pub fn put_no_call(out: &mut [u8], at: usize) -> usize
-    ensures { Written out.old at no_call_text out.new result }
+pub fn put_no_call(out: &mut Room)
+    ensures { Puts out.old no_call_text out.new }
 {
-    text::put_bytes(out, at, b"??\n")
+    out.put_bytes(b"??\n");
 }

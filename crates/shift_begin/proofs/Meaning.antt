@@ -15,8 +15,8 @@ use Rattle.numbers.proofs.Tests.{by_bool}
 use Rattle.channels.specs.declared.Channel.{Channel}
 use Rattle.words.specs.Lines.{lines_of, size}
 use Rattle.words.proofs.LineLaws.{has-line}
-use Rattle.configuration.specs.declared.TextVerdict.TheVariants as Verdict'
-use Rattle.configuration.specs.declared.Answer.{Answer}
+use Rattle.channels.specs.declared.Configuration.{Configuration}
+use Rattle.configuration.specs.declared.BadLine.{BadLine}
 use Rattle.configuration.specs.Configured.{refused, good, configuration_of}
 use Rattle.configuration_form.specs.Form.{written, Due, Complete, Reads, InForm, FirstBad}
 use Rattle.configuration_form.specs.Means.{Said}
@@ -24,19 +24,23 @@ use Rattle.configuration_form.proofs.Meaning.{meaning}
 use Rattle.configuration_form.proofs.Unique.{all-stops, read_back, first-named}
 use Rattle.configuration_form.proofs.Enough.{enough}
 use Rattle.shift_begin.specs.declared.Begun.TheVariants as Begun'
-use Rattle.shift_begin.specs.declared.Beginning.{Beginning}
+use Rattle.shift_begin.specs.declared.Begun.{Begun}
 use Rattle.shift_begin.specs.Opening.{opening_of}
 use Rattle.shift_begin.proofs.LineLaws.{counted, rest_of, there, nothing_left}
 
 -- these lines are a configuration
-abbrev pub begun_with : List Channel → List Bool → ℕ → Beginning
-begun_with of marks word = record { begun = Begun'.Good; configuration = record { channels = of; down = marks; codes = word } }
+abbrev pub begun_with : List Channel → List Bool → ℕ → Begun
+begun_with of marks word = Begun'.Good (record { channels = of; down = marks; codes = word })
+
+-- this line is bad
+abbrev pub begun_bad : ℕ → Begun
+begun_bad number = Begun'.Bad (record { 0 = number })
 
 -- what is answered: good for the written form, else by whether the first bad or missing line is there
 data Answered (s : List ℕ) : Type 0 where
   goods : (of : List Channel) (marks : List Bool) (word : ℕ) → InForm s of marks word → opening_of true s ≡ begun_with of marks word → Answered s
-  bads : (number : ℕ) → FirstBad s number → number ≤ length (lines_of s) → (opening_of true s).begun ≡ Begun'.Bad number → Answered s
-  dues : (number : ℕ) → FirstBad s number → length (lines_of s) < number → (opening_of true s).begun ≡ Begun'.More → Answered s
+  bads : (number : ℕ) → FirstBad s number → number ≤ length (lines_of s) → opening_of true s ≡ begun_bad number → Answered s
+  dues : (number : ℕ) → FirstBad s number → length (lines_of s) < number → opening_of true s ≡ Begun'.More → Answered s
 
 answered : (s : List ℕ) → Answered s
 unfolding opening_of
@@ -55,23 +59,26 @@ unfolding opening_of
 form-good s of marks word w = rw (read_back s of marks word w)
 
 -- the answers are told apart
-good-not-bad : {n : ℕ} → Begun'.Good ≡ Begun'.Bad n → ⊥
+good-not-bad : {c : Configuration} {n : BadLine} → Begun'.Good c ≡ Begun'.Bad n → ⊥
 good-not-bad e = let z : ◌≡◌ {A = ℕ} 0 1 = cc in omega arith
 
-good-not-more : Begun'.Good ≡ Begun'.More → ⊥
+good-not-more : {c : Configuration} → Begun'.Good c ≡ Begun'.More → ⊥
 good-not-more e = let z : ◌≡◌ {A = ℕ} 0 1 = cc in omega arith
 
-more-not-bad : {n : ℕ} → Begun'.More ≡ Begun'.Bad n → ⊥
+more-not-bad : {n : BadLine} → Begun'.More ≡ Begun'.Bad n → ⊥
 more-not-bad e = let z : ◌≡◌ {A = ℕ} 0 1 = cc in omega arith
 
-same-bad : {m n : ℕ} → Begun'.Bad m ≡ Begun'.Bad n → m ≡ n
-same-bad e = cc
+same-line : {m n : BadLine} → Begun'.Bad m ≡ Begun'.Bad n → m ≡ n
+same-line e = cc
+
+same-bad : {m n : ℕ} → begun_bad m ≡ begun_bad n → m ≡ n
+same-bad e = ap (λ (b : BadLine). b.0) (same-line e)
+
+same-good : {c d : Configuration} → Begun'.Good c ≡ Begun'.Good d → c ≡ d
+same-good e = cc
 
 bad-not-good : {number : ℕ} {of : List Channel} {marks : List Bool} {word : ℕ} → refused number ≡ good of marks word → ⊥
-bad-not-good e = verdicts (ap (λ (a : Answer). a.verdict) e)
-  where
-    verdicts : {n : ℕ} → Verdict'.Bad n ≡ Verdict'.Good → ⊥
-    verdicts e = let z : ◌≡◌ {A = ℕ} 0 1 = cc in omega arith
+bad-not-good e = let z : ◌≡◌ {A = ℕ} 0 1 = cc in omega arith
 
 -- what follows a whole configuration is its first bad line
 after : (s more : List ℕ) (of : List Channel) (marks : List Bool) (word : ℕ) (w : InForm s of marks word) → (more ≡ [] → ⊥)
@@ -98,12 +105,12 @@ good-form s of marks word e = by (answered s)
   where
     by : Answered s → InForm s of marks word
     by (Answered.goods o m x w f) =
-        let p : o ≡ of = ap (λ (b : Beginning). b.configuration.channels) (sym f ∙ e) in
-        let q : m ≡ marks = ap (λ (b : Beginning). b.configuration.down) (sym f ∙ e) in
-        let r : x ≡ word = ap (λ (b : Beginning). b.configuration.codes) (sym f ∙ e) in
+        let p : o ≡ of = ap (λ (b : Configuration). b.channels) (same-good (sym f ∙ e)) in
+        let q : m ≡ marks = ap (λ (b : Configuration). b.down) (same-good (sym f ∙ e)) in
+        let r : x ≡ word = ap (λ (b : Configuration). b.codes) (same-good (sym f ∙ e)) in
         rw (← p, ← q, ← r) w
-    by (Answered.bads n f l g) = absurd (good-not-bad (sym (ap (λ (b : Beginning). b.begun) e) ∙ g))
-    by (Answered.dues n f l g) = absurd (good-not-more (sym (ap (λ (b : Beginning). b.begun) e) ∙ g))
+    by (Answered.bads n f l g) = absurd (good-not-bad (sym e ∙ g))
+    by (Answered.dues n f l g) = absurd (good-not-more (sym e ∙ g))
 
 -- a bad line that is there is the first bad line of every text that starts so
 stays : (s more : List ℕ) (number : ℕ) → number ≤ length (lines_of s) → FirstBad s number → FirstBad (s ++ more) number
@@ -132,12 +139,12 @@ stays s more number h f =
     }
 
 -- bad is answered for the first bad line, and whatever follows does not change it
-pub bad-stays : (s more : List ℕ) (number : ℕ) → (opening_of true s).begun ≡ Begun'.Bad number
+pub bad-stays : (s more : List ℕ) (number : ℕ) → opening_of true s ≡ begun_bad number
     → FirstBad (s ++ more) number × (configuration_of (s ++ more) ≡ refused number)
 bad-stays s more number e = by (answered s)
   where
     by : Answered s → FirstBad (s ++ more) number × (configuration_of (s ++ more) ≡ refused number)
-    by (Answered.goods o m x w f) = absurd (good-not-bad (sym (ap (λ (b : Beginning). b.begun) f) ∙ e))
+    by (Answered.goods o m x w f) = absurd (good-not-bad (sym f ∙ e))
     by (Answered.bads n f l g) =
         let p : n ≡ number = same-bad (sym g ∙ e) in
         let b = stays s more number (rw (← p) l) (subst (FirstBad s) p f) in
@@ -145,14 +152,14 @@ bad-stays s more number e = by (answered s)
     by (Answered.dues n f l g) = absurd (more-not-bad (sym g ∙ e))
 
 -- where more is due, whole lines are all right ones, and the configuration is not complete
-pub more-due : (s : List ℕ) → size (lines_of s) ≡ length s → (opening_of true s).begun ≡ Begun'.More
+pub more-due : (s : List ℕ) → size (lines_of s) ≡ length s → opening_of true s ≡ Begun'.More
     → (due : Due) × Reads Due.first s (length (lines_of s)) due []
     × ((of : List Channel) (marks : List Bool) (word : ℕ) → Complete due of marks word → ⊥)
 more-due s whole e = by (answered s)
   where
     by : Answered s → (due : Due) × Reads Due.first s (length (lines_of s)) due []
         × ((of : List Channel) (marks : List Bool) (word : ℕ) → Complete due of marks word → ⊥)
-    by (Answered.goods o m x w f) = absurd (good-not-more (sym (ap (λ (b : Beginning). b.begun) f) ∙ e))
+    by (Answered.goods o m x w f) = absurd (good-not-more (sym f ∙ e))
     by (Answered.bads n f l g) = absurd (more-not-bad (sym e ∙ g))
     by (Answered.dues n f l g) =
         let r = f.reads in
@@ -171,26 +178,26 @@ more-due s whole e = by (answered s)
 
 -- so every question before the end of a configuration is answered with more
 pub before-good : (s more : List ℕ) (of : List Channel) (marks : List Bool) (word : ℕ) → InForm (s ++ more) of marks word → (more ≡ [] → ⊥)
-    → (opening_of true s).begun ≡ Begun'.More
+    → opening_of true s ≡ Begun'.More
 before-good s more of marks word w n = by (answered s)
   where
     never-bad : {number : ℕ} → configuration_of (s ++ more) ≡ refused number → ⊥
     never-bad e = bad-not-good (sym e ∙ read_back (s ++ more) of marks word w)
 
-    by : Answered s → (opening_of true s).begun ≡ Begun'.More
+    by : Answered s → opening_of true s ≡ Begun'.More
     by (Answered.goods o m x v f) = absurd (never-bad (first-named (s ++ more) (v.lines + 1) (after s more o m x v n)))
     by (Answered.bads k f l g) = absurd (never-bad (bad-stays s more k g).1)
     by (Answered.dues k f l g) = g
 
 -- where no more comes, the reader's verdict is the answer
-pub ended : (s : List ℕ) (number : ℕ) → configuration_of s ≡ refused number → (opening_of false s).begun ≡ Begun'.Bad number
+pub ended : (s : List ℕ) (number : ℕ) → configuration_of s ≡ refused number → opening_of false s ≡ begun_bad number
 unfolding opening_of
 ended s number e = rw e
 
 -- 2,048 bytes decide: of a text of as many no more need be kept, and the line that they blame is the first bad line
 -- whatever follows
 pub kept : (s more : List ℕ) → 2048 ≤ length s
-    → (number : ℕ) × ((opening_of false (take 2048 s)).begun ≡ Begun'.Bad number) × (configuration_of (s ++ more) ≡ refused number)
+    → (number : ℕ) × (opening_of false (take 2048 s) ≡ begun_bad number) × (configuration_of (s ++ more) ≡ refused number)
 kept s more h = by (meaning (take 2048 s)).said
   where
     same : configuration_of (s ++ more) ≡ configuration_of (take 2048 s)
@@ -200,7 +207,7 @@ kept s more h = by (meaning (take 2048 s)).said
         ∙ enough (take 2048 s) (drop 2048 s ++ more) (omega (arith, length-take-le 2048 s h))
 
     by : Said (configuration_of (take 2048 s))
-        → (number : ℕ) × ((opening_of false (take 2048 s)).begun ≡ Begun'.Bad number) × (configuration_of (s ++ more) ≡ refused number)
+        → (number : ℕ) × (opening_of false (take 2048 s) ≡ begun_bad number) × (configuration_of (s ++ more) ≡ refused number)
     by (Said.goods o m x e) =
         let w = (meaning (take 2048 s)).written o m x e in
         let f = first-named ((take 2048 s) ++ (0 ∷ [])) (w.lines + 1) (after (take 2048 s) (0 ∷ []) o m x w some) in

@@ -12,7 +12,7 @@ use Rattle.numbers.specs.Limits.{deck_bytes}
 use Rattle.words.specs.Lines.{line_text}
 use Rattle.words.proofs.LineLaws.{NoLf, no-lf-tested, first_ended}
 use Rattle.cards_fields.specs.Deck.{cards_of, is_termination, termination, terminated, before, size, deck_end}
-use Rattle.cards_fields.specs.declared.DeckEnd.TheVariants.{At, Refused}
+use Rattle.std.specs.Prelude.{Ok, Err}
 
 -- the text of cards
 abbrev pub text_of : List (List ℕ) → List ℕ
@@ -48,13 +48,13 @@ sizes (c ∷ cs) = omega (arith, sizes cs, length-append (line_text c) (text_of 
 
 -- where its termination card starts, or that it is too long
 pub deck-given : (cs : List (List ℕ)) → Cards cs → length (text_of cs ++ line_text termination) ≤ deck_bytes
-    → deck_end (text_of cs ++ line_text termination) ≡ At (length (text_of cs))
+    → deck_end (text_of cs ++ line_text termination) ≡ Ok (length (text_of cs))
 unfolding deck_end
 deck-given cs h l =
     let e = ends cs h in
     rw (le-leb (length (text_of cs ++ line_text termination)) deck_bytes l, cards-are cs h, e.0, e.1, sizes cs)
 
 pub deck-too-long : (cs : List (List ℕ)) → deck_bytes < length (text_of cs ++ line_text termination)
-    → deck_end (text_of cs ++ line_text termination) ≡ Refused BadDeck
+    → deck_end (text_of cs ++ line_text termination) ≡ Err BadDeck
 unfolding deck_end
 deck-too-long cs l = rw (lt-leb (length (text_of cs ++ line_text termination)) deck_bytes l)

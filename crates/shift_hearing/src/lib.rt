@@ -17,6 +17,7 @@ use schedule_list::Schedule;
 use shift_packets::Handled;
 use shift_script::Line;
 use shift_turns::{Phase, Shift, Turn};
+use text::room::Room;
 
 // How many bytes of a line are kept.
 pub const LINE: usize = 20480;
@@ -64,14 +65,8 @@ fn asked(phase: Phase, line: &[u8]) -> Line
     ensures { result ≡ asked_in phase line.now }
 {
     match phase {
-        Phase::Begins(_) => Line::NoCall,
-        Phase::Talks => {
-            let said = shift_script::read_line(line);
-            said.line
-        }
-        Phase::Gathers(_) => Line::NoCall,
-        Phase::Passes => Line::NoCall,
-        Phase::Over => Line::NoCall,
+        Phase::Talks => shift_script::read_line(line).line,
+        _ => Line::NoCall,
     }
 }
 
@@ -79,17 +74,10 @@ fn asked(phase: Phase, line: &[u8]) -> Line
 fn is_followed(answer: Answer) -> bool
     ensures { (result ≡ false) → (s : Schedule) → followed s answer ≡ s }
 {
-    match answer {
-        Answer::Done => false,
-        Answer::Started(_) => false,
-        Answer::Completed(_, _, leaving) => match leaving {
-            Leaving::Stays => false,
-            Leaving::AfterNormal => true,
-            Leaving::AfterError => true,
-        },
-        Answer::Closed(_, _) => true,
-        Answer::Refused(_) => false,
-    }
+    matches!(
+        answer,
+        Answer::Completed(_, _, Leaving::AfterNormal | Leaving::AfterError) | Answer::Closed(_, _)
+    )
 }
 
 // Answers one line that is a call on the request lists, and puts the answer behind those before it.
@@ -106,11 +94,12 @@ fn answer_call(
     let handled = shift_packets::reply(lists, call, answer);
     let after = handled.lists;
     let said = handled.answer;
-    let end = text::put_bytes(out, at, input_lines::front(answer, handled.at));
+    let mut behind = Room { bytes: out, at };
+    behind.put_bytes(input_lines::front(answer, handled.at));
     Handled {
         lists: after,
         answer: said,
-        at: end,
+        at: behind.at,
     }
 }
 
@@ -128,10 +117,11 @@ fn answer_line(
 {
     let turn = shift_turns::take_line(shift, line, room, answer);
     let after = turn.shift;
-    let end = text::put_bytes(out, at, input_lines::front(answer, turn.at));
+    let mut behind = Room { bytes: out, at };
+    behind.put_bytes(input_lines::front(answer, turn.at));
     Turn {
         shift: after,
-        at: end,
+        at: behind.at,
     }
 }
 
@@ -159,6 +149,7 @@ pub fn hear(
     let mut kept = len;
     let mut taken: usize = 0;
     let mut at: usize = 0;
+    // Stays: a turn takes the rest of a line that may have begun in an earlier piece, and std's lines begin in the text.
     while taken < piece.len() && at <= ENOUGH {
         let cut = input_lines::take_up(line, kept, &piece[taken..]);
         taken += cut.taken;

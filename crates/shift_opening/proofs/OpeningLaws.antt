@@ -3,39 +3,39 @@
 use Prim.Native.Nat.{ℕ, min}
 use mathlib.Core.Path.{◌≡◌, sym, subst, ◌∙◌}
 use mathlib.Core.Bool.{false}
-use mathlib.Core.List.{List}
+use mathlib.Core.List.{List, ◌++◌}
 use native.Mathlib.Omega.{arith}
 use lib.Dec.{ltb}
-use lib.ListN.{length, take}
+use lib.ListN.{take}
 use Rattle.numbers.specs.Limits.{deck_bytes}
 use Rattle.text.specs.Room.{Written}
-use Rattle.text.proofs.RoomLaws.{written_one}
+use Rattle.text.proofs.RoomLaws.{and_then, written_one}
 use Rattle.shift_begin.specs.Opening.{opening_of}
-use Rattle.shift_begin.specs.declared.Beginning.{Beginning}
+use Rattle.shift_begin.specs.declared.Begun.{Begun}
 use Rattle.shift_opening.specs.Openings.{Keeps, begun_text, AnswersOpening, Opens, Unfinished}
 use Rattle.shift_opening.specs.declared.Opening.{Opening}
 
--- a text kept in the room stays within it
-pub kept-within : (room : List ℕ) (kept from : ℕ) (text after : List ℕ) (n : ℕ) → length room ≡ deck_bytes → from ≡ min kept deck_bytes
-    → Written room from text after n → Keeps room kept text after n
-kept-within room kept from text after n l e w =
-    record { put = subst (λ (m : ℕ). Written room m text after n) e w; within = omega (arith, w.reached) }
+-- a text is kept, and another behind it
+pub keeps-then : {room room' after p q : List ℕ} {kept m n : ℕ} → Keeps room kept p room' m → Keeps room' m q after n → Keeps room kept (p ++ q) after n
+keeps-then {room' = room'} {after = after} {q = q} {m = m} {n = n} a b =
+    let e : min m deck_bytes ≡ m = omega (arith, a.within) in
+    record { put = and_then a.put (subst (λ (i : ℕ). Written room' i q after n) e b.put); within = b.within }
 
 -- what was asked is what the text begins
-pub answers-as : {b c : Beginning} {n : ℕ} {out after : List ℕ} {r : Opening} → b ≡ c → AnswersOpening b n out after r
+pub answers-as : {b c : Begun} {n : ℕ} {out after : List ℕ} {r : Opening} → b ≡ c → AnswersOpening b n out after r
     → AnswersOpening c n out after r
-answers-as {n = n} {out = out} {after = after} {r = r} e a = subst (λ (b : Beginning). AnswersOpening b n out after r) e a
+answers-as {n = n} {out = out} {after = after} {r = r} e a = subst (λ (b : Begun). AnswersOpening b n out after r) e a
 
 -- one opening
-abbrev made : Beginning → ℕ → ℕ → Opening
-made b n at = record { beginning = b; kept = n; at = at }
+abbrev made : Begun → ℕ → ℕ → Opening
+made b n at = record { begun = b; kept = n; at = at }
 
-answers_one : {b : Beginning} {n : ℕ} {out x y : List ℕ} {r q : Opening} → AnswersOpening b n out x r → AnswersOpening b n out y q → (x ≡ y) × (r ≡ q)
+answers_one : {b : Begun} {n : ℕ} {out x y : List ℕ} {r q : Opening} → AnswersOpening b n out x r → AnswersOpening b n out y q → (x ≡ y) × (r ≡ q)
 answers_one {r = r} {q = q} a c =
     let w = written_one a.put c.put in
     (w.0, same (a.begins ∙ sym c.begins) (a.keeps ∙ sym c.keeps) w.1)
   where
-    same : {b c : Beginning} {m n i j : ℕ} → b ≡ c → m ≡ n → i ≡ j → made b m i ≡ made c n j
+    same : {b c : Begun} {m n i j : ℕ} → b ≡ c → m ≡ n → i ≡ j → made b m i ≡ made c n j
     same e f g = rw (e, f, g)
 
 -- what the first n bytes of a room begin is answered
@@ -54,7 +54,7 @@ opens_one kept line room room₁ room₂ out x y r q a c =
 
 -- the text of a configuration that ends unfinished
 abbrev EndsBegun : List ℕ → List ℕ → ℕ → ℕ → List ℕ → Type 0
-EndsBegun out x r n room = Written out 0 (begun_text (opening_of false (take n room)).begun) x r
+EndsBegun out x r n room = Written out 0 (begun_text (opening_of false (take n room))) x r
 
 pub unfinished-one : (kept : ℕ) (rest room room₁ room₂ out x y : List ℕ) (r q : ℕ) → Unfinished kept rest room room₁ out x r
     → Unfinished kept rest room room₂ out y q

@@ -7,7 +7,6 @@ use Rattle.configuration_listing.specs.Listing.{error_text}
 use Rattle.shift_begin.specs.Opening.{opening_of}
 use Rattle.shift_begin.specs.declared.Begun.{Begun}
 use Rattle.shift_begin.specs.declared.Begun.TheVariants.{More, Good, Bad}
-use Rattle.shift_begin.specs.declared.Beginning.{Beginning}
 use Rattle.shift_opening.specs.declared.Opening.{Opening}
 
 -- a text behind what is kept at the room's start, cut at the room's end, and how many bytes are kept then
@@ -18,14 +17,14 @@ pub record Keeps (room : List ℕ) (kept : ℕ) (text after : List ℕ) (n : ℕ
 -- "A bad one prints `ER 14 LINE n`"
 abbrev pub begun_text : Begun → List ℕ
 begun_text More = []
-begun_text Good = []
-begun_text (Bad line) = error_text line
+begun_text (Good configuration) = []
+begun_text (Bad line) = error_text line.0
 
 -- what `kept` bytes begin, and the answer from the room's start on, cut at its end
-pub record AnswersOpening (beginning : Beginning) (kept : ℕ) (out after : List ℕ) (r : Opening) : Type 0 where
-  pub begins : r.beginning ≡ beginning
+pub record AnswersOpening (begun : Begun) (kept : ℕ) (out after : List ℕ) (r : Opening) : Type 0 where
+  pub begins : r.begun ≡ begun
   pub keeps : r.kept ≡ kept
-  pub put : Written out 0 (begun_text beginning.begun) after r.at
+  pub put : Written out 0 (begun_text begun) after r.at
 
 -- a line: it is kept with its LF, and what the text so far begins is asked; 2,048 bytes decide
 pub record Opens (kept : ℕ) (line room room' out after : List ℕ) (r : Opening) : Type 0 where
@@ -37,4 +36,4 @@ pub record Opens (kept : ℕ) (line room room' out after : List ℕ) (r : Openin
 pub record Unfinished (kept : ℕ) (rest room room' out after : List ℕ) (r : ℕ) : Type 0 where
   pub n : ℕ
   pub keeps : Keeps room kept rest room' n
-  pub put : Written out 0 (begun_text (opening_of false (take n room')).begun) after r
+  pub put : Written out 0 (begun_text (opening_of false (take n room'))) after r

@@ -2,72 +2,54 @@
 // or one of them is bad.
 #![tactic(auto)]
 
-ghost use Rattle.std.specs.Prelude.{◌≡◌, ◌≤◌, min, length, take};
-ghost use Rattle.numbers.specs.Limits.{deck_bytes};
-ghost use Rattle.text.specs.Room.{Written};
-ghost use Rattle.words.specs.Lines.{line_text};
-ghost use Rattle.shift_begin.specs.Opening.{opening_of};
+ghost use Rattle.text.specs.Room.{Puts};
 ghost use Rattle.shift_opening.specs.Openings.{Keeps, begun_text, AnswersOpening, Opens, Unfinished};
 
 use numbers::limits;
-use shift_begin::{Beginning, Begun};
+use shift_begin::Begun;
+use text::room::Room;
 
 // What the lines so far begin, how many bytes of them are kept in the room, and where the answer ends in the room for
 // it.
 #[derive(Clone, Copy)]
 pub struct Opening {
-    pub beginning: Beginning,
+    pub begun: Begun,
     pub kept: usize,
     pub at: usize,
 }
 
-// An index of the room, its end for one past that.
-fn within(kept: usize) -> usize
-    ensures { result ≡ min kept deck_bytes }
+// Puts a text behind what is kept; what is past the room's end is cut off.
+fn keep(room: &mut [u8; limits::DECK_BYTES], kept: usize, text: &[u8]) -> usize
+    ensures { Keeps room.old kept text.now room.new result }
 {
-    if kept < limits::DECK_BYTES {
-        return kept;
-    }
-    limits::DECK_BYTES
-}
-
-// Puts a line with its LF behind what is kept; what is past the room's end is cut off.
-fn keep(room: &mut [u8; limits::DECK_BYTES], kept: usize, line: &[u8]) -> usize
-    ensures { Keeps room.old kept (line_text line.now) room.new result }
-{
-    let end = text::put_bytes(room, within(kept), line);
-    text::put_byte(room, end, b'\n')
-}
-
-// What the first n bytes of the room begin.
-fn asked(room: &[u8], n: usize, more: bool) -> Beginning
-    requires { n ≤ length room.now }
-    ensures { result ≡ opening_of more (take n room.now) }
-{
-    shift_begin::judge(&room[..n], more)
+    let mut end = Room {
+        bytes: room,
+        at: kept.min(limits::DECK_BYTES),
+    };
+    end.put_bytes(text);
+    end.at
 }
 
 // Puts the line of a bad configuration; nothing while more is due, and nothing for a good one.
-fn put_begun(out: &mut [u8], begun: Begun) -> usize
-    ensures { Written out.old 0 (begun_text begun) out.new result }
+fn put_begun(room: &mut Room, begun: Begun)
+    ensures { Puts room.old (begun_text begun) room.new }
 {
     match begun {
-        Begun::More => 0,
-        Begun::Good => 0,
-        Begun::Bad(line) => configuration_listing::put_error(out, line),
+        Begun::More | Begun::Good(_) => {}
+        Begun::Bad(bad) => configuration_listing::put_error(room, bad),
     }
 }
 
 // What is answered to what the text so far begins.
-fn answered(beginning: Beginning, kept: usize, out: &mut [u8]) -> Opening
-    ensures { AnswersOpening beginning kept out.old out.new result }
+fn answered(begun: Begun, kept: usize, out: &mut [u8]) -> Opening
+    ensures { AnswersOpening begun kept out.old out.new result }
 {
-    let begun = beginning.begun;
-    let at = put_begun(out, begun);
+    let mut room = Room { bytes: out, at: 0 };
+    put_begun(&mut room, begun);
     Opening {
-        beginning,
+        begun,
         kept,
-        at,
+        at: room.at,
     }
 }
 
@@ -80,8 +62,9 @@ pub fn take_line(
 ) -> Opening
     ensures { Opens kept line.now room.old room.new out.old out.new result }
 {
-    let n = keep(room, kept, line);
-    answered(asked(room, n, n < 2048), n, out)
+    let end = keep(room, kept, line);
+    let n = keep(room, end, b"\n");
+    answered(shift_begin::judge(&room[..n], n < 2048), n, out)
 }
 
 // The end of the input before the configuration is whole, and what is left of it behind the last LF.
@@ -93,7 +76,6 @@ pub fn end_of_input(
 ) -> usize
     ensures { Unfinished kept rest.now room.old room.new out.old out.new result }
 {
-    let n = text::put_bytes(room, within(kept), rest);
-    let last = answered(asked(room, n, false), n, out);
-    last.at
+    let n = keep(room, kept, rest);
+    answered(shift_begin::judge(&room[..n], false), n, out).at
 }

@@ -5,10 +5,10 @@ use mathlib.Core.Bool.{Bool, true, false}
 use mathlib.Core.List.{List}
 use Rattle.numbers.specs.declared.ChannelNumber.{ChannelNumber}
 use Rattle.channels.specs.declared.Channel.{Channel}
-use Rattle.channels.specs.declared.Fitted.{Fitted}
 use Rattle.text.specs.Room.{Written}
 use Rattle.text.proofs.RoomLaws.{written_one}
-use Rattle.packets.specs.State.{drum_on, fitted_on, is_drum_of}
+use Rattle.packets.specs.State.{Fitting, drum_on, fitted_on, is_drum_of}
+use Rattle.packets.specs.declared.Act.{Act}
 use Rattle.packets.specs.declared.Acted.{Acted}
 use Rattle.packets.specs.declared.Answer.{Answer}
 use Rattle.packets.specs.declared.Answer.TheVariants.{Done}
@@ -17,7 +17,7 @@ use Rattle.packets.specs.declared.Spot.TheVariants.{OnUnit, OnDrum}
 use Rattle.shift_script.specs.declared.Line.{Line}
 use Rattle.shift_script.specs.declared.Line.TheVariants as Line'
 use Rattle.shift_packets.specs.Texts.{spot_on}
-use Rattle.shift_packets.specs.OnLists.{nothing_done, Tells, Gives, Handles}
+use Rattle.shift_packets.specs.OnLists.{nothing_done, Tells, Gives, NotHere, Handles}
 use Rattle.shift_packets.specs.declared.Handled.{Handled}
 
 module _ (channels : List Channel) (channel : ChannelNumber) (x h : ℕ) where
@@ -31,13 +31,27 @@ module _ (channels : List Channel) (channel : ChannelNumber) (x h : ℕ) where
   to-unit d n e = rw (d, e)
 
 -- whether a channel has the drum, by what it has
-pub drum-of : (channels : List Channel) (c : ℕ) {has : Fitted} {b : Bool} → has ≡ fitted_on channels c → b ≡ is_drum_of has → b ≡ drum_on channels c
+pub drum-of : (channels : List Channel) (c : ℕ) {has : Fitting} {b : Bool} → has ≡ fitted_on channels c → b ≡ is_drum_of has → b ≡ drum_on channels c
 drum-of channels c e f = unfold drum_on in f ∙ ap is_drum_of e
 
 -- a line that changes nothing
 pub told : {text room after : List ℕ} {lists : Lists} {n : ℕ} {r : Handled} → r ≡ record { lists = lists; answer = Done; at = n }
     → Written room 0 text after n → Tells text (nothing_done lists) room after r
 told e w = rw e (record { lists = refl; answer = refl; put = w })
+
+-- a line that is neither a call on packets, jobs, units and marks nor a status
+pub other-line : (lists : Lists) (call : Line) {room after : List ℕ} {r : Handled} → ((act : Act) → call ≡ Line'.Do act → ⊥)
+    → ((p k : ℕ) → call ≡ Line'.Status p k → ⊥) → NotHere lists room after r → Handles lists call room after r
+other-line lists Line'.NoCall d s n = n
+other-line lists Line'.Echo d s n = n
+other-line lists Line'.Deck d s n = n
+other-line lists Line'.Select d s n = n
+other-line lists Line'.Board d s n = n
+other-line lists (Line'.Do act) d s n = absurd (d act refl)
+other-line lists Line'.Release d s n = n
+other-line lists Line'.Delete d s n = n
+other-line lists (Line'.Status p k) d s n = absurd (s p k refl)
+other-line lists Line'.Key d s n = n
 
 -- the outcome of a call is the outcome that its contract gives
 pub gives_as : {a b : Acted} {room after : List ℕ} {r : Handled} → a ≡ b → Gives a room after r → Gives b room after r

@@ -1,6 +1,6 @@
 -- The line of a call's answer and of a packet's status, and the call that a line is in a cell. This is the script's
 -- table, last column.
-use Rattle.std.specs.Prelude.{ℕ, min, cond, List}
+use Rattle.std.specs.Prelude.{ℕ, min, cond, Result, Ok, Err, List}
 use Rattle.numbers.specs.declared.ChannelNumber.{ChannelNumber}
 use Rattle.channels.specs.declared.Channel.{Channel}
 use Rattle.packets.specs.State.{drum_on}
@@ -10,8 +10,8 @@ use Rattle.packets.specs.declared.Answer.{Answer}
 use Rattle.packets.specs.declared.Answer.TheVariants as Answer'
 use Rattle.packets.specs.declared.Spot.{Spot}
 use Rattle.packets.specs.declared.Spot.TheVariants.{OnUnit, OnDrum}
-use Rattle.lists.specs.declared.StatusAnswer.{StatusAnswer}
-use Rattle.lists.specs.declared.StatusAnswer.TheVariants as Status'
+use Rattle.numbers.specs.declared.Refusal.{Refusal}
+use Rattle.packets.specs.declared.Status.{Status}
 use Rattle.answer_pieces.specs.Pieces.{no_line}
 use Rattle.shift_answers.specs.AnswerLines.{done_text, started_text, completed_text, status_text}
 
@@ -24,9 +24,9 @@ answer_text (Answer'.Closed place leaving) = done_text
 answer_text (Answer'.Refused refusal) = no_line refusal
 
 -- "`STATUS p k`: a packet's status"
-abbrev pub status_answer_text : StatusAnswer → List ℕ
-status_answer_text (Status'.Is status) = status_text status
-status_answer_text (Status'.Refused refusal) = no_line refusal
+abbrev pub status_answer_text : Result Status Refusal → List ℕ
+status_answer_text (Ok status) = status_text status
+status_answer_text (Err refusal) = no_line refusal
 
 -- "x the unit, or on the drum channel the address, or for 23 there L, with h as H". A unit number over 255 is out of
 -- range as 255 is

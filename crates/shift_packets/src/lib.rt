@@ -4,16 +4,16 @@
 #![tactic(auto)]
 
 ghost use Rattle.std.specs.Prelude.{◌≡◌};
-ghost use Rattle.text.specs.Room.{Written};
+ghost use Rattle.text.specs.Room.{Puts};
 ghost use Rattle.packets.specs.declared.Answer.TheVariants.{Done};
 ghost use Rattle.shift_packets.specs.Texts.{answer_text, status_answer_text, spot_on, placed};
 ghost use Rattle.shift_packets.specs.OnLists.{is_for_lists, nothing_done, Tells, Gives, Handles};
 
 use channels::Channel;
-use lists::StatusAnswer;
-use numbers::{ChannelNumber, UnitNumber};
-use packets::{Act, Acted, Answer, Lists, Spot};
+use numbers::{ChannelNumber, Refusal, UnitNumber};
+use packets::{Act, Acted, Answer, Lists, Spot, Status};
 use shift_script::Line;
+use text::room::Room;
 
 // The request lists after a line, what the call answered (done, for a status, refused or not, and for a line that is no
 // such call), and where its text ends in the lent room.
@@ -28,40 +28,28 @@ pub struct Handled {
 pub fn is_for_lists(call: Line) -> bool
     ensures { result ≡ is_for_lists call }
 {
-    match call {
-        Line::NoCall => false,
-        Line::Echo => false,
-        Line::Deck => false,
-        Line::Select => false,
-        Line::Board => false,
-        Line::Do(_) => true,
-        Line::Release => false,
-        Line::Delete => false,
-        Line::Status(_, _) => true,
-        Line::Key => false,
-    }
+    matches!(call, Line::Do(_) | Line::Status(_, _))
 }
 
-// Puts the line of an answer from the room's start on.
-pub fn put_answer(out: &mut [u8], answer: Answer) -> usize
-    ensures { Written out.old 0 (answer_text answer) out.new result }
+// Puts the line of an answer.
+pub fn put_answer(out: &mut Room, answer: Answer)
+    ensures { Puts out.old (answer_text answer) out.new }
 {
     match answer {
-        Answer::Done => shift_answers::put_done(out, 0),
-        Answer::Started(begun) => shift_answers::put_started(out, 0, begun),
-        Answer::Completed(place, packet, _) => shift_answers::put_completed(out, 0, place, packet),
-        Answer::Closed(_, _) => shift_answers::put_done(out, 0),
-        Answer::Refused(refusal) => answer_pieces::put_refused(out, 0, refusal),
+        Answer::Done | Answer::Closed(_, _) => shift_answers::put_done(out),
+        Answer::Started(begun) => shift_answers::put_started(out, begun),
+        Answer::Completed(place, packet, _) => shift_answers::put_completed(out, place, packet),
+        Answer::Refused(refusal) => answer_pieces::put_refused(out, refusal),
     }
 }
 
 // Puts the line of a packet's status.
-fn put_status(out: &mut [u8], answer: StatusAnswer) -> usize
-    ensures { Written out.old 0 (status_answer_text answer) out.new result }
+fn put_status(out: &mut Room, answer: Result<Status, Refusal>)
+    ensures { Puts out.old (status_answer_text answer) out.new }
 {
     match answer {
-        StatusAnswer::Is(status) => shift_answers::put_status(out, 0, status),
-        StatusAnswer::Refused(refusal) => answer_pieces::put_refused(out, 0, refusal),
+        Ok(status) => shift_answers::put_status(out, status),
+        Err(refusal) => answer_pieces::put_refused(out, refusal),
     }
 }
 
@@ -76,10 +64,7 @@ fn spot_on(channels: [Channel; 16], channel: ChannelNumber, spot: Spot) -> Spot
             if packets_channels::is_drum(packets_channels::fitted_on(channels, channel)) {
                 return spot;
             }
-            if x < 255 {
-                return Spot::OnUnit(UnitNumber(x as u8));
-            }
-            Spot::OnUnit(UnitNumber(255))
+            Spot::OnUnit(UnitNumber(x.min(255) as u8))
         }
     }
 }
@@ -93,11 +78,7 @@ fn placed(channels: [Channel; 16], act: Act) -> Act
             let there = spot_on(channels, channel, spot);
             Act::Submit(place, packet, function, channel, there)
         }
-        Act::Start(_) => act,
-        Act::Complete(_, _) => act,
-        Act::End(_, _) => act,
-        Act::Return(_, _, _) => act,
-        Act::Mark(_, _, _, _) => act,
+        _ => act,
     }
 }
 
@@ -107,10 +88,12 @@ fn with_answer(out: &mut [u8], acted: Acted) -> Handled
 {
     let answer = acted.answer;
     let lists = acted.lists;
+    let mut room = Room { bytes: out, at: 0 };
+    put_answer(&mut room, answer);
     Handled {
         lists,
         answer,
-        at: put_answer(out, answer),
+        at: room.at,
     }
 }
 
@@ -127,14 +110,16 @@ fn unchanged(lists: Lists, at: usize) -> Handled
 
 // A packet's status, and the request lists as they are. They are taken over before the text is put, so that no call
 // keeps them for that.
-fn with_status(out: &mut [u8], lists: Lists, status: StatusAnswer) -> Handled
+fn with_status(out: &mut [u8], lists: Lists, status: Result<Status, Refusal>) -> Handled
     ensures { Tells (status_answer_text status) (nothing_done lists) out.old out.new result }
 {
     let kept = lists;
+    let mut room = Room { bytes: out, at: 0 };
+    put_status(&mut room, status);
     Handled {
         lists: kept,
         answer: Answer::Done,
-        at: put_status(out, status),
+        at: room.at,
     }
 }
 
@@ -143,20 +128,13 @@ pub fn reply(lists: Lists, call: Line, out: &mut [u8]) -> Handled
     ensures { Handles lists call out.old out.new result }
 {
     match call {
-        Line::NoCall => unchanged(lists, 0),
-        Line::Echo => unchanged(lists, 0),
-        Line::Deck => unchanged(lists, 0),
-        Line::Select => unchanged(lists, 0),
-        Line::Board => unchanged(lists, 0),
         Line::Do(act) => {
             let channels = lists.channels;
             with_answer(out, lists::act(lists, placed(channels, act)))
         }
-        Line::Release => unchanged(lists, 0),
-        Line::Delete => unchanged(lists, 0),
         Line::Status(place, packet) => {
             with_status(out, lists, lists::status(lists, place, packet))
         }
-        Line::Key => unchanged(lists, 0),
+        _ => unchanged(lists, 0),
     }
 }

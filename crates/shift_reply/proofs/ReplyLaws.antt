@@ -1,17 +1,16 @@
 -- What the parts of a reply come to. Assumes nothing.
 use Prim.Native.Nat.{ℕ}
-use mathlib.Core.Path.{◌≡◌, refl, ap, ap₂, subst, ◌∙◌}
+use mathlib.Core.Path.{◌≡◌, refl, sym, ap, ap₂, subst, ◌∙◌}
 use mathlib.Core.List.{List, ◌++◌}
 use lib.ListN.{length, take}
 use Rattle.numbers.specs.Quoted.{bytes}
-use Rattle.numbers.specs.declared.Outcome.{Outcome}
 use Rattle.text.specs.Room.{Written}
 use Rattle.text.proofs.RoomLaws.{and_then, whole-front}
 use Rattle.keyboard.specs.Messages.{read_message}
 use Rattle.keyboard_answers.specs.MessageAnswers.{answer_text as key_text}
 use Rattle.schedule_deck.specs.Report.{deck_notes}
 use Rattle.schedule_deck.proofs.Bounds.{noted-put}
-use Rattle.cell.specs.Calls.{cell_of, Enters, Keys}
+use Rattle.cell.specs.Calls.{Outcome, cell_of, Enters, Keys}
 use Rattle.cell.specs.declared.Answered.{Answered}
 use Rattle.cell.specs.declared.Cell.{Cell}
 use Rattle.cell.specs.declared.DeckAnswer.{DeckAnswer}
@@ -30,6 +29,11 @@ entered cell deck room mid after a n l e w =
     }
 
 -- a line that changes nothing
+-- the bytes that were lent are those of the room, where it still lends the same
+pub back : {A : Type 0} {a b : A} {room text x y : List ℕ} {at r : ℕ} → b ≡ a → (a ≡ b → x ≡ y) → Written room at text y r
+    → Written room at text x r
+back {room = room} {text = text} {at = at} {r = r} e f w = subst (λ (l : List ℕ). Written room at text l r) (sym (f (sym e))) w
+
 pub shown : {text room after : List ℕ} {cell : Cell} {n : ℕ} {r : Replied} → r ≡ record { cell = cell; at = n } → Written room 0 text after n
     → Shows text cell room after r
 shown e w = rw e (record { cell = refl; put = w })

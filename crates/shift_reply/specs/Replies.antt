@@ -1,8 +1,6 @@
 -- What is answered to a line of the script, and the cell then: the script's table, last column.
-use Rattle.std.specs.Prelude.{ℕ, ◌≡◌, List, [], ◌++◌}
+use Rattle.std.specs.Prelude.{ℕ, ◌≡◌, Ok, Err, List, [], ◌++◌}
 use Rattle.numbers.specs.Quoted.{bytes}
-use Rattle.numbers.specs.declared.Outcome.{Outcome}
-use Rattle.numbers.specs.declared.Outcome.TheVariants as Outcome'
 use Rattle.channels.specs.declared.Channel.{Channel}
 use Rattle.text.specs.Room.{Written}
 use Rattle.cards_fields.specs.Fields.{spaceless}
@@ -12,7 +10,7 @@ use Rattle.cell_selection.specs.declared.Choice.TheVariants.{Job, NoPlace, NoCan
 use Rattle.cell_selection.specs.declared.Selection.{Selection}
 use Rattle.keyboard.specs.Messages.{read_message}
 use Rattle.keyboard_answers.specs.MessageAnswers.{answer_text as key_text}
-use Rattle.cell.specs.Calls.{cell_of, acted, releasing, deleting, status_of, heeded, SelectsIn}
+use Rattle.cell.specs.Calls.{Outcome, cell_of, acted, releasing, deleting, status_of, heeded, SelectsIn}
 use Rattle.cell.specs.declared.Answered.{Answered}
 use Rattle.cell.specs.declared.Cell.{Cell}
 use Rattle.cell.specs.declared.Heeded.{Heeded}
@@ -31,8 +29,8 @@ use Rattle.shift_reply.specs.declared.Replied.{Replied}
 
 -- `NO n` for a refused call, nothing else
 abbrev pub refusal_text : Outcome → List ℕ
-refusal_text Outcome'.Done = []
-refusal_text (Outcome'.Refused refusal) = no_line refusal
+refusal_text (Ok u) = []
+refusal_text (Err refusal) = no_line refusal
 
 -- what follows the number where nothing is selected. It is nothing in "`NO 18`: no place is free" and "`NO 19`: a place
 -- is free, but there is no candidate". It is the first candidate's ID and the first part that is lacking for it in
@@ -45,8 +43,8 @@ lack_text (Lacks part) id = bytes " " ++ (spaceless id ++ (bytes " " ++ part_tex
 
 -- SELECT answers "`ACK p id ` and the assignment", or is "refused with one of three lines"
 abbrev pub select_text : Outcome → Selection → List Channel → List ℕ
-select_text Outcome'.Done selection channels = selected_text selection.place selection.request selection.assigned channels
-select_text (Outcome'.Refused refusal) selection channels =
+select_text (Ok u) selection channels = selected_text selection.place selection.request selection.assigned channels
+select_text (Err refusal) selection channels =
     no_text refusal ++ (lack_text selection.choice selection.first ++ bytes "\n")
 
 -- "echoed as it stands"

@@ -2,8 +2,9 @@
 #![tactic(auto)]
 
 ghost use Rattle.std.specs.Prelude.{◌≡◌};
-ghost use Rattle.text.specs.Room.{Written};
+ghost use Rattle.text.specs.Room.{Puts};
 ghost use Rattle.board.specs.Board.{board_text};
+ghost use Rattle.shift_answers.specs.AnswerLines.{no_call_text};
 ghost use Rattle.shift_reply.specs.Followed.{Followed};
 ghost use Rattle.shift_reply.specs.Replies.{lack_text, select_text, refusal_text, echo_text, Shows, Gives};
 ghost use Rattle.shift_reply.specs.Replies.{Selects, EntersDeck, KeysMessage, Replies};
@@ -12,8 +13,9 @@ use cards_fields::parts;
 use cell::{Answered, Cell};
 use cell_selection::{Choice, Selection};
 use channels::Channel;
-use numbers::Outcome;
+use numbers::Refusal;
 use shift_script::{Line, Said};
+use text::room::Room;
 
 // The cell after a line, and where the answer ends in the lent room.
 #[derive(Clone, Copy)]
@@ -28,10 +30,9 @@ fn with_answer(out: &mut [u8], answered: Answered) -> Replied
 {
     let answer = answered.answer;
     let cell = answered.cell;
-    Replied {
-        cell,
-        at: shift_packets::put_answer(out, answer),
-    }
+    let mut room = Room { bytes: out, at: 0 };
+    shift_packets::put_answer(&mut room, answer);
+    Replied { cell, at: room.at }
 }
 
 // A line that changes nothing, and where its answer ends.
@@ -41,52 +42,59 @@ fn unchanged(cell: Cell, at: usize) -> Replied
     Replied { cell, at }
 }
 
-// A line echoed as it stands.
-fn put_echo(out: &mut [u8], line: &[u8]) -> usize
-    ensures { Written out.old 0 (echo_text line.now) out.new result }
+// A line that is no call.
+fn no_call(cell: Cell, out: &mut [u8]) -> Replied
+    ensures { Shows no_call_text cell out.old out.new result }
 {
-    let end = text::put_bytes(out, 0, line);
-    text::put_byte(out, end, b'\n')
+    let mut room = Room { bytes: out, at: 0 };
+    shift_answers::put_no_call(&mut room);
+    unchanged(cell, room.at)
+}
+
+// A line echoed as it stands.
+fn echo(cell: Cell, line: &[u8], out: &mut [u8]) -> Replied
+    ensures { Shows (echo_text line.now) cell out.old out.new result }
+{
+    let mut room = Room { bytes: out, at: 0 };
+    room.put_bytes(line);
+    room.put_byte(b'\n');
+    unchanged(cell, room.at)
 }
 
 // Puts what was lacking behind the number of a refused selection: the first candidate's ID and the part.
-fn put_lack(out: &mut [u8], at: usize, choice: Choice, id: [u8; 6]) -> usize
-    ensures { Written out.old at (lack_text choice id) out.new result }
+fn put_lack(out: &mut Room, choice: Choice, id: [u8; 6])
+    ensures { Puts out.old (lack_text choice id) out.new }
 {
     match choice {
-        Choice::Job => at,
-        Choice::NoPlace => at,
-        Choice::NoCandidates => at,
+        Choice::Job | Choice::NoPlace | Choice::NoCandidates => {}
         Choice::Lacks(part) => {
-            let space = text::put_byte(out, at, b' ');
-            let name = parts::put_name(out, space, &id);
-            let next = text::put_byte(out, name, b' ');
-            shift_selected::put_part(out, next, part)
+            out.put_byte(b' ');
+            parts::put_name(out, &id);
+            out.put_byte(b' ');
+            shift_selected::put_part(out, part);
         }
     }
 }
 
 // Puts the line of a selection.
 fn put_selection(
-    out: &mut [u8],
-    outcome: Outcome,
+    out: &mut Room,
+    outcome: Result<(), Refusal>,
     selection: Selection,
     channels: [Channel; 16],
-) -> usize
-    ensures { Written out.old 0 (select_text outcome selection channels) out.new result }
+)
+    ensures { Puts out.old (select_text outcome selection channels) out.new }
 {
     match outcome {
-        Outcome::Done => {
+        Ok(()) => {
             let request = selection.request;
             let assigned = selection.assigned;
-            shift_selected::put_selected(out, 0, selection.place, request, assigned, channels)
+            shift_selected::put_selected(out, selection.place, request, assigned, channels);
         }
-        Outcome::Refused(refusal) => {
-            let choice = selection.choice;
-            let first = selection.first;
-            let number = answer_pieces::put_no(out, 0, refusal);
-            let lack = put_lack(out, number, choice, first);
-            text::put_byte(out, lack, b'\n')
+        Err(refusal) => {
+            answer_pieces::put_no(out, refusal);
+            put_lack(out, selection.choice, selection.first);
+            out.put_byte(b'\n');
         }
     }
 }
@@ -101,19 +109,20 @@ fn select(cell: Cell, out: &mut [u8]) -> Replied
     let outcome = answer.outcome;
     let selection = answer.selection;
     let after = answer.cell;
+    let mut room = Room { bytes: out, at: 0 };
+    put_selection(&mut room, outcome, selection, channels);
     Replied {
         cell: after,
-        at: put_selection(out, outcome, selection, channels),
+        at: room.at,
     }
 }
 
 // Puts the refusal of a call behind what it has put; nothing where it was done.
-fn put_refusal(out: &mut [u8], at: usize, outcome: Outcome) -> usize
-    ensures { Written out.old at (refusal_text outcome) out.new result }
+fn put_refusal(out: &mut Room, outcome: Result<(), Refusal>)
+    ensures { Puts out.old (refusal_text outcome) out.new }
 {
-    match outcome {
-        Outcome::Done => at,
-        Outcome::Refused(refusal) => answer_pieces::put_refused(out, at, refusal),
+    if let Err(refusal) = outcome {
+        answer_pieces::put_refused(out, refusal);
     }
 }
 
@@ -124,9 +133,14 @@ pub fn reply_deck(cell: Cell, deck: &[u8], out: &mut [u8; schedule_deck::ROOM]) 
     let entered = cell::enter(cell, deck, out);
     let outcome = entered.outcome;
     let after = entered.cell;
+    let mut room = Room {
+        bytes: out,
+        at: entered.at,
+    };
+    put_refusal(&mut room, outcome);
     Replied {
         cell: after,
-        at: put_refusal(out, entered.at, outcome),
+        at: room.at,
     }
 }
 
@@ -153,14 +167,16 @@ fn on_lists(cell: Cell, call: Line, out: &mut [u8]) -> Replied
 fn key(cell: Cell, message: &[u8], out: &mut [u8]) -> Replied
     ensures { KeysMessage cell message.now out.old out.new result }
 {
-    let mut room = [b' '; 12];
-    let answer = cell::key(cell, message, &mut room);
+    let mut told = [b' '; 12];
+    let answer = cell::key(cell, message, &mut told);
     let after = answer.cell;
     let at = answer.at;
-    let end = text::put_bytes(out, 0, &room[..at]);
+    let mut reply = Room { bytes: out, at: 0 };
+    reply.put_bytes(&told[..at]);
+    reply.put_byte(b'\n');
     Replied {
         cell: after,
-        at: text::put_byte(out, end, b'\n'),
+        at: reply.at,
     }
 }
 
@@ -170,7 +186,9 @@ fn board(cell: Cell, out: &mut [u8]) -> Replied
 {
     let lists = cell.lists;
     let schedule = cell.schedule;
-    unchanged(cell, board::put(out, 0, lists, schedule))
+    let mut room = Room { bytes: out, at: 0 };
+    board::put(&mut room, lists, schedule);
+    unchanged(cell, room.at)
 }
 
 // The answer to a line that says this.
@@ -180,8 +198,8 @@ pub fn reply_line(cell: Cell, said: Said, line: &[u8], out: &mut [u8]) -> Replie
     let id = said.id;
     let call = said.line;
     match call {
-        Line::NoCall => unchanged(cell, shift_answers::put_no_call(out, 0)),
-        Line::Echo => unchanged(cell, put_echo(out, line)),
+        Line::NoCall => no_call(cell, out),
+        Line::Echo => echo(cell, line, out),
         Line::Deck => unchanged(cell, 0),
         Line::Select => select(cell, out),
         Line::Board => board(cell, out),

@@ -60,10 +60,7 @@ fn naming(line: &[u8], call: Line) -> Said
 fn small(n: u32) -> u8
     ensures { result ≡ min n 255 }
 {
-    if n < 255 {
-        return n as u8;
-    }
-    255
+    n.min(255) as u8
 }
 
 // The place, packet, channel or unit number that word k writes.
@@ -191,33 +188,21 @@ fn on_packets(line: &[u8]) -> Said
 fn is_echo(line: &[u8]) -> bool
     ensures { result ≡ is_echo line.now }
 {
-    if line.len() == 0 {
-        return true;
-    }
-    text::byte_at(line, 0) == b'#'
+    line.is_empty() || line[0] == b'#'
 }
 
 // Whether a line is a keyboard message: `KEY`, one space, and the message; or `KEY` alone.
 fn is_key(line: &[u8]) -> bool
     ensures { result ≡ is_key line.now }
 {
-    if words::is_same(line, b"KEY") {
-        return true;
-    }
-    if line.len() < 4 {
-        return false;
-    }
-    words::is_same(&line[..4], b"KEY ")
+    line == b"KEY".as_slice() || line.starts_with(b"KEY ")
 }
 
 // The message of a line that is one; empty for `KEY` alone.
 pub fn message_in(line: &[u8]) -> &[u8]
     ensures { result.now ≡ message_in line.now }
 {
-    if line.len() < 4 {
-        return &line[0..0];
-    }
-    &line[4..]
+    &line[line.len().min(4)..]
 }
 
 // What a line says, its LF apart.

@@ -1,7 +1,7 @@
 -- A number that is written is read as that number, in either base: one law for both, over what dividing by the base
 -- does. Assumes nothing.
 use Prim.Native.Nat.{ℕ, zero, suc, ◌+◌, ◌-◌, ◌*◌, ◌/◌, ◌%◌, ◌≤◌, ◌<◌}
-use mathlib.Core.Path.{◌≡◌, ◌∙◌}
+use mathlib.Core.Path.{◌≡◌, ◌∙◌, sym, subst}
 use mathlib.Core.Bool.{Bool, true}
 use mathlib.Core.List.{List, [], ◌∷◌, ◌++◌}
 use native.Mathlib.Nat.{le_of_suc-le-suc}
@@ -55,7 +55,8 @@ has-run from zero d h = absurd (omega arith)
 has-run from (suc k) zero h = rw (eq-eqb (from + 0) from (omega arith))
 has-run from (suc k) (suc d) h =
     let e : from + suc d ≡ suc from + d = omega arith in
-    rw (ne_eqb (from + suc d) from (λ z. omega arith), e) (has-run (suc from) k d (le_of_suc-le-suc h))
+    rw (ne_eqb (from + suc d) from (λ z. omega arith))
+    (subst (λ (n : ℕ). has (run (suc from) k) n ≡ true) (sym e) (has-run (suc from) k d (le_of_suc-le-suc h)))
 
 has-digit : (base : Base) (d : ℕ) → d < base_of base → has (digits base) (48 + d) ≡ true
 has-digit Decimal d h = has-run 48 10 d h

@@ -23,8 +23,8 @@ use Rattle.cards_fields.proofs.FieldLaws.{spaceless-short}
 use Rattle.channels.specs.Channels.{no_channel}
 use Rattle.channels.specs.declared.Channel.{Channel}
 use Rattle.assign_heads.specs.Whose.{logical, blank}
-use Rattle.assign_heads.specs.declared.Given.{Given}
-use Rattle.assign_heads.specs.declared.Given.TheVariants as G
+use Rattle.std.proofs.Common.{Option, Some, None}
+use Rattle.numbers.specs.declared.LogicalChannel.{LogicalChannel}
 use Rattle.assign_heads.specs.declared.Head.{Head}
 use Rattle.assign.specs.declared.Assigned.{Assigned}
 use Rattle.answer_pieces.specs.Pieces.{each_from, span_text}
@@ -53,33 +53,33 @@ at_most f m (suc n) k p = omega (arith, suc-mul n m, p k, at_most f m n (k + 1) 
 
 -- ---- one kind
 -- six bytes for a unit that is given to one of n logical channels from k on
-abbrev share : ℕ → ℕ → Given → ℕ
-share n k G.Nothing = 0
-share n k (G.To l) = cond (leb k l.0 && ltb l.0 (k + n)) 6 0
+abbrev share : ℕ → ℕ → Option LogicalChannel → ℕ
+share n k None = 0
+share n k (Some l) = cond (leb k l.0 && ltb l.0 (k + n)) 6 0
 
-share-most : (n k : ℕ) (to : Given) → share n k to ≤ 6
-share-most n k G.Nothing = omega arith
-share-most n k (G.To l) = by_bool (leb k l.0 && ltb l.0 (k + n)) (λ t. rw t (omega arith)) (λ f. rw f (omega arith))
+share-most : (n k : ℕ) (to : Option LogicalChannel) → share n k to ≤ 6
+share-most n k None = omega arith
+share-most n k (Some l) = by_bool (leb k l.0 && ltb l.0 (k + n)) (λ t. rw t (omega arith)) (λ f. rw f (omega arith))
 
-given-most : (kind : Kind) (l : ℕ) (channel : Channel) (to : Given) (i : ℕ) → length (given_text kind (logical l) channel to i) ≤ 6
+given-most : (kind : Kind) (l : ℕ) (channel : Channel) (to : Option LogicalChannel) (i : ℕ) → length (given_text kind (logical l) channel to i) ≤ 6
 unfolding given_text
 given-most kind l channel to i =
     by_bool (is_of_kind kind channel && is_to (logical l) to) (λ t. rw t (omega arith)) (λ f. rw f (omega arith))
 
 -- a unit that entry k names is none that an entry after it names
-apart : (kind : Kind) (n k : ℕ) (channel : Channel) (to : Given) (i : ℕ)
+apart : (kind : Kind) (n k : ℕ) (channel : Channel) (to : Option LogicalChannel) (i : ℕ)
     → length (given_text kind (logical k) channel to i) + share n (k + 1) to ≤ share (suc n) k to
 unfolding given_text
-apart kind n k channel G.Nothing i =
+apart kind n k channel None i =
     by_bool (is_of_kind kind channel) (λ t. rw t (omega arith)) (λ f. rw f (omega arith))
-apart kind n k channel (G.To l) i =
+apart kind n k channel (Some l) i =
     by_bool (eqb l.0 k)
     (λ t.
     let e = eqb-true l.0 k t in
     rw (lt-leb (k + 1) l.0 (omega arith), le-leb k l.0 (omega arith), lt-ltb l.0 (k + suc n) (omega arith))
-    (omega (arith, given-most kind k channel (G.To l) i)))
+    (omega (arith, given-most kind k channel (Some l) i)))
     (λ f.
-    let nothing : length (given_text kind (logical k) channel (G.To l) i) ≡ 0 = none_named f in
+    let nothing : length (given_text kind (logical k) channel (Some l) i) ≡ 0 = none_named f in
     by_bool (leb (k + 1) l.0 && ltb l.0 (k + 1 + n))
     (λ t.
     let b = both (leb (k + 1) l.0) (ltb l.0 (k + 1 + n)) t in
@@ -91,7 +91,7 @@ apart kind n k channel (G.To l) i =
     (omega arith))
     (λ g. rw g (omega arith)))
   where
-    none_named : eqb l.0 k ≡ false → length (given_text kind (logical k) channel (G.To l) i) ≡ 0
+    none_named : eqb l.0 k ≡ false → length (given_text kind (logical k) channel (Some l) i) ≡ 0
     none_named f = by_bool (is_of_kind kind channel) (λ t. rw (t, f) refl) (λ t. rw t refl)
 
 module _ (units : List ℕ) (channels : List Channel) (heads : List Head) (kind : Kind) where

@@ -11,7 +11,7 @@ use Rattle.cards_request.specs.declared.Request.{Request}
 use Rattle.channels.specs.Channels.{fitted, no_channels}
 use Rattle.channels.specs.declared.Channel.{Channel}
 use Rattle.assign_heads.specs.Whose.{logical, blank}
-use Rattle.assign_heads.specs.declared.Given.TheVariants.{To}
+use Rattle.std.proofs.Common.{Some}
 use Rattle.assign_heads.specs.declared.Head.{Head}
 use Rattle.assign.specs.declared.Assigned.{Assigned}
 use Rattle.answer_pieces.specs.Pieces.{each_from}
@@ -41,7 +41,7 @@ unfoldable pub channels : List Channel
 channels = set no_channels 3 (fitted Mt 4)
 
 unfoldable pub first : Head
-first = record { to = To (logical 1) }
+first = record { to = Some (logical 1) }
 
 unfoldable pub given : Assigned
 given = record { ib = 2; db = 0; drum = 0; channels = []; heads = set (set (replicate 256 blank) 48 first) 49 first }

@@ -1,5 +1,5 @@
 -- What a selection answers: `ACK p id ` and the assignment; and the word for a part that is lacking.
-use Rattle.std.specs.Prelude.{ℕ, ◌+◌, ◌*◌, ◌/◌, ◌%◌, Bool, false, cond, ◌&&◌, List, [], ◌++◌, eqb, get_or}
+use Rattle.std.specs.Prelude.{ℕ, ◌+◌, ◌*◌, ◌/◌, ◌%◌, Bool, false, cond, ◌&&◌, Option, Some, None, List, [], ◌++◌, eqb, get_or}
 use Rattle.numbers.specs.Quoted.{bytes}
 use Rattle.numbers.specs.Kinds.{code_of, row_of, unit_kinds, kind_at, order_of}
 use Rattle.numbers.specs.declared.Kind.{Kind}
@@ -10,11 +10,8 @@ use Rattle.cards_request.specs.declared.Facilities.{Facilities}
 use Rattle.cards_request.specs.declared.Request.{Request}
 use Rattle.channels.specs.Channels.{no_channel}
 use Rattle.channels.specs.declared.Fitted.{Fitted}
-use Rattle.channels.specs.declared.Fitted.TheVariants as F
 use Rattle.channels.specs.declared.Channel.{Channel}
 use Rattle.assign_heads.specs.Whose.{logical, blank}
-use Rattle.assign_heads.specs.declared.Given.{Given}
-use Rattle.assign_heads.specs.declared.Given.TheVariants as G
 use Rattle.assign_heads.specs.declared.Head.{Head}
 use Rattle.assign.specs.declared.Assigned.{Assigned}
 use Rattle.assign.specs.declared.Part.{Part}
@@ -30,20 +27,20 @@ areas_text wanted ib db drum =
     run_text (bytes " IB ") ib wanted.ib ++ (run_text (bytes " DB ") db wanted.db ++ run_text (bytes " MD ") drum wanted.md)
 
 -- a channel is of a kind
-abbrev pub is_kind_of : Kind → Fitted → Bool
-is_kind_of kind F.Nothing = false
-is_kind_of kind (F.With its n) = eqb (row_of its) (row_of kind)
+abbrev pub is_kind_of : Kind → Option Fitted → Bool
+is_kind_of kind None = false
+is_kind_of kind (Some on) = eqb (row_of on.kind) (row_of kind)
 
 abbrev pub is_of_kind : Kind → Channel → Bool
 is_of_kind kind channel = is_kind_of kind channel.has
 
 -- a unit is given to the entry with a logical channel
-abbrev pub is_to : LogicalChannel → Given → Bool
-is_to l G.Nothing = false
-is_to l (G.To its) = eqb its.0 l.0
+abbrev pub is_to : LogicalChannel → Option LogicalChannel → Bool
+is_to l None = false
+is_to l (Some its) = eqb its.0 l.0
 
 -- ` cc/uu` for the unit with index cc * 16 + uu, where it is given to this entry of its channel's kind
-unfoldable pub given_text : Kind → LogicalChannel → Channel → Given → ℕ → List ℕ
+unfoldable pub given_text : Kind → LogicalChannel → Channel → Option LogicalChannel → ℕ → List ℕ
 given_text kind l channel to index = cond (is_of_kind kind channel && is_to l to) (bytes " " ++ unit_text (index / 16) (index % 16)) []
 
 abbrev pub unit_at : List Channel → List Head → Kind → LogicalChannel → ℕ → List ℕ

@@ -9,8 +9,7 @@ use Rattle.text.proofs.RoomLaws.{written_one}
 use Rattle.cards_fields.specs.Deck.{is_termination}
 use Rattle.shift_opening.specs.declared.Opening.{Opening}
 use Rattle.shift_opening.proofs.OpeningLaws.{opens_one, unfinished-one}
-use Rattle.shift_deck.specs.declared.Gathered.{Gathered}
-use Rattle.shift_deck.specs.declared.Gathered.TheVariants as Gathered'
+use Rattle.std.specs.Prelude.{Option, Some, None}
 use Rattle.cell.specs.declared.Cell.{Cell}
 use Rattle.shift_script.specs.Script.{line_says}
 use Rattle.shift_reply.proofs.OneReply.{replies-one}
@@ -50,11 +49,11 @@ pass-one : (last : Bool) (cell : Cell) (out a b : List ℕ) (t u : Turn) → Pas
 pass-one true cell out a b t u x y = says-one x y
 pass-one false cell out a b t u x y = says-one x y
 
-card-one : (g : Gathered) (last : Bool) (cell : Cell) (room out a b : List ℕ) (t u : Turn) → CardSays g last cell room out a t
+card-one : (g : Option ℕ) (last : Bool) (cell : Cell) (room out a b : List ℕ) (t u : Turn) → CardSays g last cell room out a t
     → CardSays g last cell room out b u → (a ≡ b) × (t ≡ u)
-card-one (Gathered'.Kept n) true cell room out a b t u x y = says-one x y
-card-one (Gathered'.Kept n) false cell room out a b t u x y = says-one x y
-card-one Gathered'.TooLong last cell room out a b t u x y = pass-one last cell out a b t u x y
+card-one (Some n) true cell room out a b t u x y = says-one x y
+card-one (Some n) false cell room out a b t u x y = says-one x y
+card-one None last cell room out a b t u x y = pass-one last cell out a b t u x y
 
 gathers-one : (cell : Cell) (kept : ℕ) (line room room₁ room₂ out a b : List ℕ) (t u : Turn) → Gathers cell kept line room room₁ out a t
     → Gathers cell kept line room room₂ out b u
@@ -65,7 +64,7 @@ gathers-one cell kept line room room₁ room₂ out a b t u x y =
     let z : CardSays x.gathered (is_termination line) cell room₂ out a t =
     subst (λ (r : List ℕ). CardSays x.gathered (is_termination line) cell r out a t) k x.says in
     let w : CardSays y.gathered (is_termination line) cell room₂ out a t =
-    subst (λ (h : Gathered). CardSays h (is_termination line) cell room₂ out a t) g z in
+    subst (λ (h : Option ℕ). CardSays h (is_termination line) cell room₂ out a t) g z in
     let s = card-one y.gathered (is_termination line) cell room₂ out a b t u w y.says in
     (k, s.0, s.1)
 

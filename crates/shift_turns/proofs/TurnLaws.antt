@@ -12,14 +12,15 @@ use Rattle.text.specs.Room.{Written}
 use Rattle.text.proofs.RoomLaws.{none}
 use Rattle.cards_fields.specs.Deck.{is_termination}
 use Rattle.shift_deck.specs.Gathering.{has_room, Adds}
-use Rattle.shift_deck.specs.declared.Gathered.{Gathered}
-use Rattle.shift_deck.specs.declared.Gathered.TheVariants as Gathered'
+use Rattle.std.specs.Prelude.{Option, Some, None}
 use Rattle.cell.specs.declared.Cell.{Cell}
 use Rattle.shift_script.specs.Script.{line_says}
+use Rattle.shift_script.specs.declared.Line.{Line}
+use Rattle.shift_script.specs.declared.Line.TheVariants as Line'
 use Rattle.shift_script.specs.declared.Said.{Said}
 use Rattle.shift_reply.specs.Replies.{Shows, Replies}
 use Rattle.shift_reply.specs.declared.Replied.{Replied}
-use Rattle.shift_turns.specs.Turns.{shift_of, turn_of, Says, after_line, Talks, Gathers, CardSays, Turns, end_text, Closes}
+use Rattle.shift_turns.specs.Turns.{shift_of, turn_of, Says, after_line, Talks, Gathers, CardSays, Turns, end_text, Closes, Ends}
 use Rattle.shift_turns.specs.declared.Phase.{Phase}
 use Rattle.shift_turns.specs.declared.Phase.TheVariants as Phase'
 use Rattle.shift_turns.specs.declared.Turn.{Turn}
@@ -51,7 +52,7 @@ pub entered : {text out after : List ℕ} {next : Cell} {replied : Replied} {t :
 entered {text} {out} {after} {next} {replied} {t} s e = rw (← s.cell) (says e s.put)
 
 -- the bytes of a deck that is not too long
-pub deck-within : {room line room' : List ℕ} {kept n : ℕ} {g : Gathered} → Adds room kept line room' g → g ≡ Gathered'.Kept n → n ≤ deck_bytes
+pub deck-within : {room line room' : List ℕ} {kept n : ℕ} {g : Option ℕ} → Adds room kept line room' g → g ≡ Some n → n ≤ deck_bytes
 deck-within {line = line} {kept = kept} {n = n} a e =
     by_bool (has_room kept line)
     (λ t. let m = leb-true (kept + (length line + 1)) deck_bytes t in
@@ -59,13 +60,13 @@ deck-within {line = line} {kept = kept} {n = n} a e =
     omega arith)
     (λ t. absurd (other (sym e ∙ a.is ∙ rw t refl)))
   where
-    same : {m k : ℕ} → Gathered'.Kept m ≡ Gathered'.Kept k → m ≡ k
+    same : {m k : ℕ} → Some m ≡ Some k → m ≡ k
     same e = cc
 
-    other : {m : ℕ} → Gathered'.Kept m ≡ Gathered'.TooLong → ⊥
+    other : {m : ℕ} → Some m ≡ None → ⊥
     other e = let z : ◌≡◌ {A = ℕ} 0 1 = cc in omega arith
 
-pub gathered : {cell : Cell} {kept : ℕ} {line room room' out after : List ℕ} {t : Turn} {g h : Gathered} {last : Bool}
+pub gathered : {cell : Cell} {kept : ℕ} {line room room' out after : List ℕ} {t : Turn} {g h : Option ℕ} {last : Bool}
     → Adds room kept line room' g → g ≡ h → last ≡ is_termination line
     → CardSays h last cell room' out after t → Gathers cell kept line room room' out after t
 gathered {cell} {kept} {line} {room} {room'} {out} {after} {t} {g} {h} {last} a e l s =
@@ -75,7 +76,28 @@ gathered {cell} {kept} {line} {room} {room'} {out} {after} {t} {g} {h} {last} a 
       says = subst (λ (b : Bool). CardSays h b cell room' out after t) l s;
     }
 
+-- after any line but `DECK` calls go on
+pub talks-on : (call : Line) → (call ≡ Line'.Deck → ⊥) → Phase'.Talks ≡ after_line call
+talks-on Line'.NoCall d = refl
+talks-on Line'.Echo d = refl
+talks-on Line'.Deck d = absurd (d refl)
+talks-on Line'.Select d = refl
+talks-on Line'.Board d = refl
+talks-on (Line'.Do act) d = refl
+talks-on Line'.Release d = refl
+talks-on Line'.Delete d = refl
+talks-on (Line'.Status p k) d = refl
+talks-on Line'.Key d = refl
+
 -- the end of the input
+pub ends : (phase : Phase) {cell : Cell} {rest room room' out after : List ℕ} {r : ℕ} → ((n : ℕ) → phase ≡ Phase'.Begins n → ⊥)
+    → Closes phase cell rest room room' out after r → Ends phase cell rest room room' out after r
+ends (Phase'.Begins n) b c = absurd (b n refl)
+ends Phase'.Talks b c = c
+ends (Phase'.Gathers n) b c = c
+ends Phase'.Passes b c = c
+ends Phase'.Over b c = c
+
 pub closes-none : (phase : Phase) (cell : Cell) (rest room out after : List ℕ) (r : ℕ) → length rest ≡ 0 → Written out 0 (end_text phase) after r
     → Closes phase cell rest room room out after r
 closes-none phase cell [] room out after r l w = record { turn = turn_of phase cell 0; between = out; turns = (refl, refl, refl); put = w }

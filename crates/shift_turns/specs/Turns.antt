@@ -1,17 +1,14 @@
 -- A shift line by line: what each line does, and what is answered to it.
-use Rattle.std.specs.Prelude.{ℕ, ◌≡◌, Bool, true, false, List, [], ◌∷◌, take}
+use Rattle.std.specs.Prelude.{ℕ, ◌≡◌, Bool, true, false, Option, Some, None, List, [], ◌∷◌, take}
 use Rattle.numbers.specs.declared.Refusal.TheVariants.{BadDeck}
 use Rattle.text.specs.Room.{Written}
 use Rattle.channels.specs.Channels.{no_channels, no_codes, no_down}
 use Rattle.cards_fields.specs.Deck.{is_termination}
 use Rattle.shift_begin.specs.declared.Begun.{Begun}
 use Rattle.shift_begin.specs.declared.Begun.TheVariants as Begun'
-use Rattle.shift_begin.specs.declared.Beginning.{Beginning}
 use Rattle.shift_opening.specs.Openings.{Opens, Unfinished}
 use Rattle.shift_opening.specs.declared.Opening.{Opening}
 use Rattle.shift_deck.specs.Gathering.{Adds}
-use Rattle.shift_deck.specs.declared.Gathered.{Gathered}
-use Rattle.shift_deck.specs.declared.Gathered.TheVariants as Gathered'
 use Rattle.answer_pieces.specs.Pieces.{no_line}
 use Rattle.cell.specs.Calls.{fresh_cell}
 use Rattle.cell.specs.declared.Cell.{Cell}
@@ -41,14 +38,14 @@ pub record Says (text : List ℕ) (next : Shift) (out after : List ℕ) (t : Tur
 -- ---- the configuration
 
 -- more of it is due; it is whole; or it was bad "and the program ends"
-abbrev pub begun_shift : Begun → Beginning → ℕ → Cell → Shift
-begun_shift Begun'.More b kept cell = shift_of (Phase'.Begins kept) cell
-begun_shift Begun'.Good b kept cell = shift_of Phase'.Talks (fresh_cell b.configuration)
-begun_shift (Begun'.Bad line) b kept cell = shift_of Phase'.Over cell
+abbrev pub begun_shift : Begun → ℕ → Cell → Shift
+begun_shift Begun'.More kept cell = shift_of (Phase'.Begins kept) cell
+begun_shift (Begun'.Good configuration) kept cell = shift_of Phase'.Talks (fresh_cell configuration)
+begun_shift (Begun'.Bad line) kept cell = shift_of Phase'.Over cell
 
 -- the turn that an opening comes to
 abbrev pub opening_turn : Opening → Cell → Turn
-opening_turn o cell = record { shift = begun_shift o.beginning.begun o.beginning o.kept cell; at = o.at }
+opening_turn o cell = record { shift = begun_shift o.begun o.kept cell; at = o.at }
 
 -- a line of the configuration: what it opens, and the turn then
 pub record Begins (cell : Cell) (kept : ℕ) (line room room' out after : List ℕ) (t : Turn) : Type 0 where
@@ -94,14 +91,14 @@ abbrev pub Entered : Cell → List ℕ → List ℕ → List ℕ → Turn → Ty
 Entered cell deck out after t = Says (deck_reply cell deck) (shift_of Phase'.Talks (deck_cell cell deck)) out after t
 
 -- a card of a deck, where it is the last card or not: the deck is entered or goes on
-abbrev pub CardSays : Gathered → Bool → Cell → List ℕ → List ℕ → List ℕ → Turn → Type 0
-CardSays (Gathered'.Kept n) true cell room out after t = Entered cell (take n room) out after t
-CardSays (Gathered'.Kept n) false cell room out after t = Says [] (shift_of (Phase'.Gathers n) cell) out after t
-CardSays Gathered'.TooLong last cell room out after t = PassSays last cell out after t
+abbrev pub CardSays : Option ℕ → Bool → Cell → List ℕ → List ℕ → List ℕ → Turn → Type 0
+CardSays (Some n) true cell room out after t = Entered cell (take n room) out after t
+CardSays (Some n) false cell room out after t = Says [] (shift_of (Phase'.Gathers n) cell) out after t
+CardSays None last cell room out after t = PassSays last cell out after t
 
 -- a card of a deck: it is put behind the cards before it
 pub record Gathers (cell : Cell) (kept : ℕ) (line room room' out after : List ℕ) (t : Turn) : Type 0 where
-  pub gathered : Gathered
+  pub gathered : Option ℕ
   pub adds : Adds room kept line room' gathered
   pub says : CardSays gathered (is_termination line) cell room' out after t
 

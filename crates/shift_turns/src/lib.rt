@@ -12,9 +12,9 @@ use cell::Cell;
 use channels::Configuration;
 use numbers::{Refusal, limits};
 use shift_begin::Begun;
-use shift_deck::Gathered;
 use shift_opening::Opening;
 use shift_script::Line;
+use text::room::Room;
 
 // The configuration is being read, and so many bytes of it stand in the room; lines are answered; a deck is gathered,
 // and so many bytes of it stand in the room; a deck that is too long goes by, up to its termination card; the
@@ -70,12 +70,9 @@ fn turned(phase: Phase, cell: Cell, at: usize) -> Turn
 fn opened(opening: Opening, cell: Cell) -> Turn
     ensures { result ≡ opening_turn opening cell }
 {
-    let beginning = opening.beginning;
-    let configuration = beginning.configuration;
-    let begun = beginning.begun;
-    match begun {
+    match opening.begun {
         Begun::More => turned(Phase::Begins(opening.kept), cell, opening.at),
-        Begun::Good => turned(Phase::Talks, cell::fresh(configuration), opening.at),
+        Begun::Good(configuration) => turned(Phase::Talks, cell::fresh(configuration), opening.at),
         Begun::Bad(_) => turned(Phase::Over, cell, opening.at),
     }
 }
@@ -98,16 +95,8 @@ fn after_line(call: Line) -> Phase
     ensures { result ≡ after_line call }
 {
     match call {
-        Line::NoCall => Phase::Talks,
-        Line::Echo => Phase::Talks,
         Line::Deck => Phase::Gathers(0),
-        Line::Select => Phase::Talks,
-        Line::Board => Phase::Talks,
-        Line::Do(_) => Phase::Talks,
-        Line::Release => Phase::Talks,
-        Line::Delete => Phase::Talks,
-        Line::Status(_, _) => Phase::Talks,
-        Line::Key => Phase::Talks,
+        _ => Phase::Talks,
     }
 }
 
@@ -127,11 +116,9 @@ fn passes(cell: Cell, line: &[u8], out: &mut [u8; schedule_deck::ROOM]) -> Turn
     ensures { PassSays (is_termination line.now) cell out.old out.new result }
 {
     if shift_deck::is_last_card(line) {
-        return turned(
-            Phase::Talks,
-            cell,
-            answer_pieces::put_refused(out, 0, Refusal::BadDeck),
-        );
+        let mut room = Room { bytes: out, at: 0 };
+        answer_pieces::put_refused(&mut room, Refusal::BadDeck);
+        return turned(Phase::Talks, cell, room.at);
     }
     turned(Phase::Passes, cell, 0)
 }
@@ -157,7 +144,7 @@ fn gathers(
     ensures { Gathers cell kept line.now room.old
         room.new out.old out.new result }
 {
-    let Gathered::Kept(n) = shift_deck::add_card(room, kept, line) else {
+    let Some(n) = shift_deck::add_card(room, kept, line) else {
         return passes(cell, line, out);
     };
     if shift_deck::is_last_card(line) {
@@ -192,11 +179,12 @@ fn close(phase: Phase, at: usize, out: &mut [u8; schedule_deck::ROOM]) -> usize
     ensures { Written out.old at (end_text phase) out.new result }
 {
     match phase {
-        Phase::Begins(_) => at,
-        Phase::Talks => at,
-        Phase::Gathers(_) => answer_pieces::put_refused(out, at, Refusal::BadDeck),
-        Phase::Passes => answer_pieces::put_refused(out, at, Refusal::BadDeck),
-        Phase::Over => at,
+        Phase::Begins(_) | Phase::Talks | Phase::Over => at,
+        Phase::Gathers(_) | Phase::Passes => {
+            let mut room = Room { bytes: out, at };
+            answer_pieces::put_refused(&mut room, Refusal::BadDeck);
+            room.at
+        }
     }
 }
 
@@ -210,14 +198,11 @@ fn closes(
     ensures { Closes shift.phase shift.cell rest.now
         room.old room.new out.old out.new result }
 {
-    if rest.len() == 0 {
-        let phase = shift.phase;
-        return close(phase, 0, out);
+    if rest.is_empty() {
+        return close(shift.phase, 0, out);
     }
     let last = take_line(shift, rest, room, out);
-    let after = last.shift;
-    let phase = after.phase;
-    close(phase, last.at, out)
+    close(last.shift.phase, last.at, out)
 }
 
 // The end of the input, and what is left of it behind the last LF.
@@ -230,13 +215,8 @@ pub fn end_of_input(
     ensures { Ends shift.phase shift.cell rest.now
         room.old room.new out.old out.new result }
 {
-    let phase = shift.phase;
-    let cell = shift.cell;
-    match phase {
+    match shift.phase {
         Phase::Begins(kept) => shift_opening::end_of_input(kept, rest, room, out),
-        Phase::Talks => closes(shift, rest, room, out),
-        Phase::Gathers(_) => closes(shift, rest, room, out),
-        Phase::Passes => closes(shift, rest, room, out),
-        Phase::Over => closes(shift, rest, room, out),
+        _ => closes(shift, rest, room, out),
     }
 }

@@ -4,24 +4,21 @@ use mathlib.Core.Path.{◌≡◌, subst}
 use mathlib.Core.Bool.{Bool}
 use mathlib.Core.List.{List}
 use Rattle.numbers.specs.Quoted.{bytes}
-use Rattle.text.specs.Room.{Written}
-use Rattle.text.proofs.RoomLaws.{and_then, same-room}
+use Rattle.text.specs.declared.room.Room.{Room}
+use Rattle.text.specs.Room.{Puts}
+use Rattle.text.proofs.RoomLaws.{puts-then}
 use Rattle.answer_pieces.specs.Pieces.{word_text}
 use Rattle.board_units.specs.Units.{state_text}
 use Rattle.board_units.proofs.put_state.Goals as goal
 
 -- a word that is put by what a function answered, by what it promises
-worded : {b d : Bool} {room after : List ℕ} {at n : ℕ} (word : List ℕ) → b ≡ d → Written room at (word_text b word) after n
-    → Written room at (word_text d word) after n
-worded {room = room} {after = after} {at = at} {n = n} word e h = subst (λ (x : Bool). Written room at (word_text x word) after n) e h
+worded : {b d : Bool} {room after : Room} (word : List ℕ) → b ≡ d → Puts room (word_text b word) after → Puts room (word_text d word) after
+worded {room = room} {after = after} word e h = subst (λ (x : Bool). Puts room (word_text x word) after) e h
 
 pub returns : goal.returns
 unfolding state_text
 returns c =
-    and_then c.put_bytes-word.ensures (and_then c.put_unit-named.ensures
-    (and_then c.put_holder-held.ensures (and_then (worded (bytes " RETURNING") c.is_returning-returning.ensures c.put_word-back.ensures)
-    (and_then c.put_word-down.ensures (and_then c.put_word-reserved.ensures
-    (and_then (worded (bytes " LOCKED") c.is_locked.ensures c.put_word-locked.ensures) c.put_byte.ensures))))))
-
-pub shape_of-out : goal.shape_of-out
-shape_of-out c = same-room (returns c)
+    puts-then c.put_bytes.ensures (puts-then c.put_unit.ensures
+    (puts-then c.put_holder.ensures (puts-then (worded (bytes " RETURNING") c.is_returning-returning.ensures c.put_word.ensures)
+    (puts-then c.put_word-2.ensures (puts-then c.put_word-3.ensures
+    (puts-then (worded (bytes " LOCKED") c.is_locked.ensures c.put_word-4.ensures) c.put_byte.ensures))))))

@@ -1,6 +1,6 @@
 -- `shift_answers::put_status_word` meets its contract: the word of each status, an ended one's with its code. Assumes
 -- nothing.
-use Rattle.text.proofs.RoomLaws.{and_then}
+use Rattle.text.proofs.RoomLaws.{puts-then}
 use Rattle.shift_answers.proofs.put_status_word.Goals as goal
 
 pub returns-in-Blank : goal.returns-in-Blank
@@ -17,4 +17,4 @@ returns-in-Stopping c = rw c.in-Stopping.is c.put_bytes-in-Stopping.ensures
 
 pub returns-in-Ended : goal.returns-in-Ended
 returns-in-Ended c =
-    rw c.in-Ended.is (and_then c.put_bytes-word.ensures c.put_octal.ensures)
+    rw c.in-Ended.is (puts-then c.put_bytes-in-Ended.ensures c.put_octal.ensures)

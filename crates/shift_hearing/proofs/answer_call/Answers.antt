@@ -11,5 +11,5 @@ returns c =
       handles = c.reply-handled.ensures;
       leaves = refl;
       says = refl;
-      behind = put-behind c.front.ensures (search rules) (search rules) c.put_bytes-end.ensures;
+      behind = put-behind c.front.ensures (search rules) (search rules) c.put_bytes.ensures.written;
     }

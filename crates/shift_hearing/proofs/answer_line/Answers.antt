@@ -10,5 +10,5 @@ returns c =
       turn = c.take_line-turn.result;
       turns = c.take_line-turn.ensures;
       shift = refl;
-      behind = put-behind c.front.ensures (search rules) (search rules) c.put_bytes-end.ensures;
+      behind = put-behind c.front.ensures (search rules) (search rules) c.put_bytes.ensures.written;
     }

@@ -10,14 +10,10 @@ pub returns-then-is_drum : goal.returns-then-is_drum
 returns-then-is_drum c = let is = drum-of c.args.channels c.args.channel.0 c.fitted_on.ensures c.is_drum.ensures in
     rw c.in-OnDrum.is (to-drum c.args.channels c.args.channel _ _ (sym is ∙ c.if-is_drum.true))
 
-pub returns-then-x-lt255 : goal.returns-then-x-lt255
-returns-then-x-lt255 c = let is = drum-of c.args.channels c.args.channel.0 c.fitted_on.ensures c.is_drum.ensures in
-    rw c.in-OnDrum.is (to-unit c.args.channels c.args.channel c.in-OnDrum.x _ (sym is ∙ c.if-is_drum.false) c.in-OnDrum.x (omega arith))
-
 pub returns-in-OnUnit : goal.returns-in-OnUnit
 unfolding spot_on
 returns-in-OnUnit c = rw c.in-OnUnit.is
 
-pub returns-else-x-lt255 : goal.returns-else-x-lt255
-returns-else-x-lt255 c = let is = drum-of c.args.channels c.args.channel.0 c.fitted_on.ensures c.is_drum.ensures in
-    rw c.in-OnDrum.is (to-unit c.args.channels c.args.channel c.in-OnDrum.x _ (sym is ∙ c.if-is_drum.false) 255 (omega arith))
+pub returns-else-is_drum : goal.returns-else-is_drum
+returns-else-is_drum c = let is = drum-of c.args.channels c.args.channel.0 c.fitted_on.ensures c.is_drum.ensures in
+    rw c.in-OnDrum.is (to-unit c.args.channels c.args.channel c.in-OnDrum.x _ (sym is ∙ c.if-is_drum.false) _ c.min.ensures)

@@ -1,10 +1,9 @@
--- `shift_reply::put_refusal` meets its contract. Assumes nothing.
-use Rattle.text.proofs.RoomLaws.{none}
+-- `shift_reply::put_refusal` meets its contract: the line of a refusal, or nothing. Assumes nothing.
+use Rattle.text.proofs.RoomLaws.{puts-none}
 use Rattle.shift_reply.proofs.put_refusal.Goals as goal
 
-pub returns-in-Done : goal.returns-in-Done
-returns-in-Done c =
-    rw c.in-Done.is (none c.args.out.now c.args.at)
+pub returns-in-Err : goal.returns-in-Err
+returns-in-Err c = rw c.in-Err.is c.put_refused.ensures
 
-pub returns-in-Refused : goal.returns-in-Refused
-returns-in-Refused c = rw c.in-Refused.is c.put_refused.ensures
+pub returns-in_default : goal.returns-in_default
+returns-in_default c = rw c.in_default.is (puts-none c.args.out.now)

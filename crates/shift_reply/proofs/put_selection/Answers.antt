@@ -1,11 +1,11 @@
--- `shift_reply::put_selection` meets its contract: what was selected, or the number and what was lacking. Assumes
--- nothing.
-use Rattle.text.proofs.RoomLaws.{and_then}
+-- `shift_reply::put_selection` meets its contract: the line of what is selected, or the refusal and what was lacking.
+-- Assumes nothing.
+use Rattle.text.proofs.RoomLaws.{puts-then}
 use Rattle.shift_reply.proofs.put_selection.Goals as goal
 
-pub returns-in-Done : goal.returns-in-Done
-returns-in-Done c = rw c.in-Done.is c.put_selected.ensures
+pub returns-in-Ok : goal.returns-in-Ok
+returns-in-Ok c = rw c.in-Ok.is c.put_selected.ensures
 
-pub returns-in-Refused : goal.returns-in-Refused
-returns-in-Refused c =
-    rw c.in-Refused.is (and_then c.put_no-number.ensures (and_then c.put_lack-lack.ensures c.put_byte.ensures))
+pub returns-in-Err : goal.returns-in-Err
+returns-in-Err c =
+    rw c.in-Err.is (puts-then c.put_no.ensures (puts-then c.put_lack.ensures c.put_byte.ensures))

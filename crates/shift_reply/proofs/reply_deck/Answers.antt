@@ -5,5 +5,5 @@ use Rattle.shift_reply.proofs.reply_deck.Goals as goal
 
 pub returns : goal.returns
 returns c =
-    entered c.args.cell c.args.deck.now c.args.out.now _ _ c.enter-entered.result c.put_refusal.result (search rules) c.enter-entered.ensures
-    c.put_refusal.ensures
+    entered c.args.cell c.args.deck.now c.args.out.now _ _ c.enter-entered.result _ (search rules) c.enter-entered.ensures
+    c.put_refusal.ensures.written

@@ -7,15 +7,15 @@ use Rattle.shift_reply.proofs.reply_line.Goals as goal
 
 pub returns-in-NoCall : goal.returns-in-NoCall
 returns-in-NoCall c =
-    rw c.in-NoCall.is (shown c.unchanged.ensures c.put_no_call.ensures)
+    rw c.in-NoCall.is c.no_call.ensures
 
 pub returns-in-Echo : goal.returns-in-Echo
 returns-in-Echo c =
-    rw c.in-Echo.is (shown c.unchanged-in-Echo.ensures c.put_echo.ensures)
+    rw c.in-Echo.is c.echo.ensures
 
 pub returns-in-Deck : goal.returns-in-Deck
 returns-in-Deck c =
-    rw c.in-Deck.is (shown c.unchanged-in-Deck.ensures (none c.args.out.now 0))
+    rw c.in-Deck.is (shown c.unchanged.ensures (none c.args.out.now 0))
 
 pub returns-in-Select : goal.returns-in-Select
 returns-in-Select c = rw c.in-Select.is c.select.ensures

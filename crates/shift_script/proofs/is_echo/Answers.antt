@@ -1,17 +1,13 @@
--- `shift_script::is_echo` meets its contract. Assumes nothing.
-use Prim.Native.Nat.{ℕ}
-use mathlib.Core.Path.{ap}
-use lib.Dec.{eqb}
-use lib.ListN.{length}
-use borrow.Author.Tests.{eq-eqb, ne_eqb}
+-- `shift_script::is_echo` meets its contract: an empty line, or its first byte. Assumes nothing.
+use Rattle.std.proofs.Common.{arith}
+use Rattle.std.proofs.lemmas.Grind.{common_steps}
 use Rattle.shift_script.specs.Script.{is_echo}
 use Rattle.shift_script.proofs.is_echo.Goals as goal
 
-pub returns-then-line-eq0 : goal.returns-then-line-eq0
+pub returns-then-is_empty : goal.returns-then-is_empty
 unfolding is_echo
-returns-then-line-eq0 c = rw (eq-eqb (length c.args.line.now) 0 c.if-line-eq0.true)
+returns-then-is_empty c = grind (arith, common_steps)
 
-pub returns : goal.returns
+pub returns-else-is_empty : goal.returns-else-is_empty
 unfolding is_echo
-returns c =
-    rw (ne_eqb (length c.args.line.now) 0 c.if-line-eq0.false) (ap (λ (b : ℕ). eqb b 35) c.byte_at.ensures)
+returns-else-is_empty c = grind (arith, common_steps)

@@ -1,15 +1,10 @@
--- `shift_script::is_key` meets its contract: each answer by the tests that led there. Assumes nothing.
-use mathlib.Core.Path.{sym, ◌∙◌}
-use Rattle.shift_script.proofs.KeyLaws.{key-alone, key-front, key-short}
+-- `shift_script::is_key` meets its contract: the word alone, or in front. Assumes nothing.
+use Rattle.std.proofs.Common.{◌∙◌}
+use Rattle.shift_script.proofs.KeyLaws.{key-alone, key-front}
 use Rattle.shift_script.proofs.is_key.Goals as goal
 
-pub returns-then-is_same : goal.returns-then-is_same
-returns-then-is_same c = key-alone c.args.line.now (sym c.is_same.ensures ∙ c.if-is_same.true)
+pub returns-then-eq : goal.returns-then-eq
+returns-then-eq c = c.if-eq.true ∙ key-alone c.args.line.now (rw c.as_slice.ensures at c.if-eq.ensures)
 
-pub returns-then-line-lt4 : goal.returns-then-line-lt4
-returns-then-line-lt4 c =
-    key-short c.args.line.now (sym c.is_same.ensures ∙ c.if-is_same.false) c.if-line-lt4.true
-
-pub returns : goal.returns
-returns c =
-    c.is_same-2.ensures ∙ key-front c.args.line.now (sym c.is_same.ensures ∙ c.if-is_same.false)
+pub returns-else-eq : goal.returns-else-eq
+returns-else-eq c = c.starts_with.ensures.value ∙ key-front c.args.line.now (rw c.as_slice.ensures at c.if-eq.ensures)

@@ -1,10 +1,6 @@
--- `shift_script::message_in` meets its contract. Assumes nothing.
-use Rattle.cards_fields.proofs.FieldLaws.{rest-is}
-use Rattle.shift_script.proofs.KeyLaws.{no-message}
+-- `shift_script::message_in` meets its contract: what is left behind four bytes, if so many are there. Assumes nothing.
+use Rattle.shift_script.proofs.KeyLaws.{message}
 use Rattle.shift_script.proofs.message_in.Goals as goal
 
-pub returns-then-line-lt4 : goal.returns-then-line-lt4
-returns-then-line-lt4 c = no-message c.args.line.now c.if-line-lt4.true
-
 pub returns : goal.returns
-returns c = rest-is c.args.line.now 4
+returns c = message c.args.line.now c.min.ensures

@@ -31,12 +31,6 @@ overflow_add-slot c =
       );
     }
 
-pub returns-then-slot-lt-COUNTS : goal.returns-then-slot-lt-COUNTS
-unfolding asked
-returns-then-slot-lt-COUNTS c = rw c.order_of.ensures
-
 pub returns : goal.returns
 unfolding asked
-returns c =
-    let n : length c.args.units ≡ counts = search rules in
-    sym (get_or-eq_default c.args.units 0 (omega (arith, c.order_of.ensures)))
+returns c = rw (← c.order_of.ensures) (search rules)

@@ -10,14 +10,14 @@ returns-in_default c = gathered c.add_card.ensures c.in_default.is refl c.passes
 
 pub entered-requires : goal.entered-requires
 entered-requires c =
-    let d = deck-within c.add_card.ensures c.in-Kept.is in
+    let d = deck-within c.add_card.ensures c.in-Some.is in
     search rules
 
 pub returns-then-is_last_card : goal.returns-then-is_last_card
 returns-then-is_last_card c =
-    gathered c.add_card.ensures c.in-Kept.is (sym c.if-is_last_card.true ∙ c.is_last_card.ensures) c.entered.ensures
+    gathered c.add_card.ensures c.in-Some.is (sym c.if-is_last_card.true ∙ c.is_last_card.ensures) c.entered.ensures
 
 pub returns : goal.returns
 returns c =
-    gathered c.add_card.ensures c.in-Kept.is (sym c.if-is_last_card.false ∙ c.is_last_card.ensures)
+    gathered c.add_card.ensures c.in-Some.is (sym c.if-is_last_card.false ∙ c.is_last_card.ensures)
     (silent c.turned.ensures)
