@@ -3,15 +3,6 @@
 
 use cards_report::Coming;
 
-// Whether nothing more is to be printed.
-fn is_over(coming: Coming) -> bool {
-    match coming {
-        Coming::Groups => false,
-        Coming::Refused(_) => false,
-        Coming::Over => true,
-    }
-}
-
 // A deck has at most 16,384 bytes: of a longer one as much is read as shows that, since the buffer holds more. It is
 // printed group by group. A proved loop has to end: this one counts its turns down, from as many as print every deck.
 // Where a piece cannot be written, that is not told.
@@ -22,8 +13,7 @@ fn main(rt: HostRuntime) {
     let mut printing = cards_report::begin(&deck[..n]);
     let mut left = cards_report::TURNS;
     while 0 < left {
-        let coming = printing.coming;
-        if is_over(coming) {
+        if matches!(printing.coming, Coming::Over) {
             return;
         }
         let printed = cards_report::next(&deck[..n], printing, &mut room);

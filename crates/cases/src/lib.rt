@@ -2,7 +2,8 @@
 // those that agree.
 #![tactic(auto)]
 
-ghost use Rattle.std.specs.Prelude.{◌≡◌, ◌≤◌, false, length, take};
+ghost use Rattle.std.specs.Prelude.{◌≡◌, ℕ, ◌≤◌, Bool, false, List, length, take};
+ghost use Rattle.std.specs.Borrow.{Bor};
 ghost use Rattle.cases.specs.Tallies.{first_of, two_on, judged_of};
 
 use std::env::{Env, FillError};
@@ -31,10 +32,7 @@ pub struct Tally {
 fn name_of(rt: &impl Env, i: usize, room: &mut [u8; NAME]) -> usize
     ensures { result ≤ length room.new }
 {
-    match rt.arg(i, room) {
-        Ok(n) => n,
-        Err(_) => 0,
-    }
+    rt.arg(i, room).unwrap_or(0)
 }
 
 // Opens the file of this name; none where there is no such file. A name that is no UTF-8 names none.
@@ -101,10 +99,8 @@ fn name_case(rt: &(impl Env + Print), i: usize) {
 fn two_on(at: usize, count: usize) -> usize
     ensures { result ≡ two_on at count }
 {
-    if at < count {
-        if 2 < count - at {
-            return at + 2;
-        }
+    if at < count && 2 < count - at {
+        return at + 2;
     }
     count
 }
@@ -138,4 +134,41 @@ pub fn print(rt: &impl Print, tally: Tally) -> u64
     let good = tally.good;
     let _ = println!(rt; "{good} cases agree");
     good
+}
+
+// Whether what comes of the input that argument i names is what the next argument's file has; a missing file is a
+// failure. Each file is put into a lent room.
+fn agrees_at<F: Fn(&[u8], &[u8]) -> bool>(
+    rt: &(impl Env + Files),
+    i: usize,
+    input: &mut [u8],
+    wanted: &mut [u8],
+    agrees: &F,
+) -> bool
+    requires { F.IsAlwaysCallable agrees.now }
+    ensures { ((given due : Bor (List ℕ)) (answer : Bool) → F.post agrees.now given due answer → answer ≡ false) → result ≡ false }
+{
+    let given = load(rt, i, input);
+    let due = load(rt, i.wrapping_add(1), wanted);
+    given.there && due.there && agrees(&input[..given.len], &wanted[..due.len])
+}
+
+// Runs each case and prints how many agree: the arguments are the names of the inputs, each before what must come out.
+// Only a case is counted of which `agrees` says so, to the input and to what must come out.
+pub fn run<F: Fn(&[u8], &[u8]) -> bool>(
+    rt: &(impl Env + Files + Print),
+    input: &mut [u8],
+    wanted: &mut [u8],
+    agrees: F,
+) -> u64
+    requires { F.IsAlwaysCallable agrees }
+    ensures { ((given due : Bor (List ℕ)) (answer : Bool) → F.post agrees given due answer → answer ≡ false) → result ≡ 0 }
+{
+    let mut tally = first(rt);
+    // Stays: the step is two arguments, and fewer at their end.
+    while tally.at < tally.count {
+        let agree = agrees_at(rt, tally.at, input, wanted, &agrees);
+        tally = judged(rt, tally, agree);
+    }
+    print(rt, tally)
 }

@@ -3,17 +3,6 @@
 #![tactic(auto)]
 
 use cards_report::Coming;
-use std::env::Env;
-use std::rt::Files;
-
-// Whether nothing more is to be printed.
-fn is_over(coming: Coming) -> bool {
-    match coming {
-        Coming::Groups => false,
-        Coming::Refused(_) => false,
-        Coming::Over => true,
-    }
-}
 
 // Whether what is printed of a deck is a text; the loop counts its turns down, as the program's does.
 fn prints(deck: &[u8], wanted: &[u8]) -> bool {
@@ -22,8 +11,7 @@ fn prints(deck: &[u8], wanted: &[u8]) -> bool {
     let mut from: usize = 0;
     let mut left = cards_report::TURNS;
     while 0 < left {
-        let coming = printing.coming;
-        if is_over(coming) {
+        if matches!(printing.coming, Coming::Over) {
             return from == wanted.len();
         }
         let printed = cards_report::next(deck, printing, &mut room);
@@ -44,21 +32,7 @@ fn prints(deck: &[u8], wanted: &[u8]) -> bool {
     false
 }
 
-// Whether what is printed of file i is file j; a missing one is a failure.
-fn agrees(rt: &(impl Env + Files), i: usize, j: usize) -> bool {
-    let mut text = [0u8; 65536];
-    let input = cases::load(rt, i, &mut text);
-    let mut wanted = [0u8; 65536];
-    let output = cases::load(rt, j, &mut wanted);
-    input.there && output.there && prints(&text[..input.len], &wanted[..output.len])
-}
-
 // Prints how many cases agree.
 fn main(rt: HostRuntime) {
-    let mut tally = cases::first(&rt);
-    while tally.at < tally.count {
-        let agree = agrees(&rt, tally.at, tally.at + 1);
-        tally = cases::judged(&rt, tally, agree);
-    }
-    cases::print(&rt, tally);
+    cases::run(&rt, &mut [0u8; 65536], &mut [0u8; 65536], prints);
 }

@@ -4,9 +4,6 @@
 
 ghost use Rattle.std.specs.Prelude.{◌≤◌, ◌<◌};
 
-use std::env::Env;
-use std::rt::Files;
-
 // Where a piece of this size ends that starts before the end of an input.
 fn end_of(at: usize, size: usize, len: usize) -> usize
     requires { (at < len) × (0 < size) }
@@ -46,44 +43,18 @@ fn play(
 }
 
 // Whether all that is printed of an input, whole and in pieces, is this text.
-fn prints(
-    input: &[u8],
-    out: &mut [u8; desk_hearing::ROOM],
-    said: &mut [u8; 65536],
-    wanted: &[u8],
-) -> bool {
-    let whole = play(input, 65536, out, said);
-    if input_lines::front(said, whole) != wanted {
-        return false;
-    }
-    let pieces = play(input, 7, out, said);
-    input_lines::front(said, pieces) == wanted
-}
-
-// Whether what is printed of file i is file j; a missing one is a failure.
-fn agrees(rt: &(impl Env + Files), i: usize, j: usize) -> bool {
-    let mut text = [0u8; 65536];
-    let input = cases::load(rt, i, &mut text);
-    let mut wanted = [0u8; 65536];
-    let output = cases::load(rt, j, &mut wanted);
+fn prints(input: &[u8], wanted: &[u8]) -> bool {
     let mut out = [0u8; desk_hearing::ROOM];
     let mut said = [0u8; 65536];
-    input.there
-        && output.there
-        && prints(
-            &text[..input.len],
-            &mut out,
-            &mut said,
-            &wanted[..output.len],
-        )
+    let whole = play(input, 65536, &mut out, &mut said);
+    if input_lines::front(&said, whole) != wanted {
+        return false;
+    }
+    let pieces = play(input, 7, &mut out, &mut said);
+    input_lines::front(&said, pieces) == wanted
 }
 
 // Prints how many cases agree.
 fn main(rt: HostRuntime) {
-    let mut tally = cases::first(&rt);
-    while tally.at < tally.count {
-        let agree = agrees(&rt, tally.at, tally.at + 1);
-        tally = cases::judged(&rt, tally, agree);
-    }
-    cases::print(&rt, tally);
+    cases::run(&rt, &mut [0u8; 65536], &mut [0u8; 65536], prints);
 }

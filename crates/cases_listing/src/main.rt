@@ -1,26 +1,14 @@
 // Runs each case of data/ and compares: the arguments are the names of the inputs, each before what must come out.
 #![tactic(auto)]
 
-use std::env::Env;
-use std::rt::Files;
-
-// Whether the listing of file i is file j; a missing one is a failure.
-fn agrees(rt: &(impl Env + Files), i: usize, j: usize) -> bool {
-    let mut text = [0u8; 4096];
-    let input = cases::load(rt, i, &mut text);
-    let mut wanted = [0u8; 4096];
-    let output = cases::load(rt, j, &mut wanted);
+// Whether the listing of a text is the wanted one.
+fn agrees(text: &[u8], wanted: &[u8]) -> bool {
     let mut room = [0u8; 128];
-    let length = configuration_listing::listing(&text[..input.len], &mut room);
-    input.there && output.there && &room[..length] == &wanted[..output.len]
+    let length = configuration_listing::listing(text, &mut room);
+    &room[..length] == wanted
 }
 
 // Prints how many cases agree.
 fn main(rt: HostRuntime) {
-    let mut tally = cases::first(&rt);
-    while tally.at < tally.count {
-        let agree = agrees(&rt, tally.at, tally.at + 1);
-        tally = cases::judged(&rt, tally, agree);
-    }
-    cases::print(&rt, tally);
+    cases::run(&rt, &mut [0u8; 4096], &mut [0u8; 4096], agrees);
 }

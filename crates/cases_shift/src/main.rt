@@ -3,8 +3,6 @@
 
 use numbers::limits;
 use shift_turns::Shift;
-use std::env::Env;
-use std::rt::Files;
 
 // The end of a script, after `kept` bytes of a last line: its answer is put behind what was said before.
 fn finish(
@@ -52,43 +50,15 @@ fn play(
 }
 
 // Whether all that is answered to a script is this text.
-fn says(
-    script: &[u8],
-    line: &mut [u8; shift_hearing::LINE],
-    out: &mut [u8; shift_hearing::OUT],
-    said: &mut [u8; 65536],
-    wanted: &[u8],
-) -> bool {
-    let length = play(script, line, out, said);
-    input_lines::front(said, length) == wanted
-}
-
-// Whether the answers to the script in file i are file j; a missing one is a failure.
-fn agrees(rt: &(impl Env + Files), i: usize, j: usize) -> bool {
-    let mut script = [0u8; 65536];
-    let input = cases::load(rt, i, &mut script);
-    let mut wanted = [0u8; 65536];
-    let output = cases::load(rt, j, &mut wanted);
-    let mut out = [0u8; 65536];
-    let mut said = [0u8; 65536];
+fn says(script: &[u8], wanted: &[u8]) -> bool {
     let mut line = [0u8; shift_hearing::LINE];
-    input.there
-        && output.there
-        && says(
-            &script[..input.len],
-            &mut line,
-            &mut out,
-            &mut said,
-            &wanted[..output.len],
-        )
+    let mut out = [0u8; shift_hearing::OUT];
+    let mut said = [0u8; 65536];
+    let length = play(script, &mut line, &mut out, &mut said);
+    input_lines::front(&said, length) == wanted
 }
 
 // Prints how many cases agree.
 fn main(rt: HostRuntime) {
-    let mut tally = cases::first(&rt);
-    while tally.at < tally.count {
-        let agree = agrees(&rt, tally.at, tally.at + 1);
-        tally = cases::judged(&rt, tally, agree);
-    }
-    cases::print(&rt, tally);
+    cases::run(&rt, &mut [0u8; 65536], &mut [0u8; 65536], says);
 }

@@ -1,15 +1,15 @@
 -- What the definitions of Exports mean: 0 is the answer for a configuration and for nothing else, any other number is
 -- that of the first bad or missing line, and `Placed` and `Located` leave one outcome. Assumes nothing.
+use Rattle.std.proofs.Common.{None, Option, Some, Result}
+use Rattle.numbers.specs.declared.Refusal.{Refusal}
+use Rattle.assign_core.specs.declared.Pair.{Pair}
 use Prim.Native.Nat.{ℕ, ◌≤◌}
 use mathlib.Core.Path.{◌≡◌, refl, sym, ap, subst, ◌∙◌}
 use mathlib.Core.Bool.{Bool, true, false}
 use mathlib.Core.List.{List}
 use native.Mathlib.Omega.{arith}
 use Rattle.channels.specs.declared.Channel.{Channel}
-use Rattle.configuration.specs.declared.Answer.{Answer}
-use Rattle.configuration.specs.Configured.{configuration_of}
-use Rattle.assign_core.specs.declared.Found.{Found}
-use Rattle.assign_core.specs.declared.Found.TheVariants.{At, Nothing}
+use Rattle.configuration.specs.Configured.{Answer, configuration_of}
 use Rattle.assign_core.proofs.CoreLaws.{answers_one}
 use Rattle.configuration_form.specs.Form.{InForm, FirstBad}
 use Rattle.configuration_form.specs.Means.{Said}
@@ -22,12 +22,12 @@ use Rattle.desk_show.proofs.Unique.{shows-one}
 use Rattle.controller.specs.Exports.{bad_line_of, Placed, refusal_of, deck_or, put_or, Located}
 
 -- one answer of the reader has one line
-same_line : {a b : Answer} → a ≡ b → bad_line_of a.verdict ≡ bad_line_of b.verdict
-same_line e = ap (λ (a : Answer). bad_line_of a.verdict) e
+same_line : {a b : Answer} → a ≡ b → bad_line_of a ≡ bad_line_of b
+same_line e = ap bad_line_of e
 
 -- the number that a text gets
 abbrev pub bad_line : List ℕ → ℕ
-bad_line s = bad_line_of (configuration_of s).verdict
+bad_line s = bad_line_of (configuration_of s)
 
 -- a text in the written form of some channels, down units and codes
 pub record Configures (s : List ℕ) : Type 0 where
@@ -68,16 +68,16 @@ bad-first s p = by (meaning s).said
 pub placed_one : {taken ib db i j a b x y : ℕ} (r s : Bool) → Placed taken ib db i j a b r → Placed taken ib db i j x y s
     → (r ≡ s) × (a ≡ x) × (b ≡ y)
 placed_one {taken} {ib} {db} {a = a} {b = b} {x = x} {y = y} true true p q =
-    let e = answers_one taken ib db (At (record { 0 = a; 1 = b })) (At (record { 0 = x; 1 = y })) (p.found refl) (q.found refl) in
+    let e = answers_one taken ib db (Some (record { 0 = a; 1 = b })) (Some (record { 0 = x; 1 = y })) (p.found refl) (q.found refl) in
     (refl, ap first e, ap second e)
   where
-    first : Found → ℕ
-    first (At pair) = pair.0
-    first Nothing = 0
+    first : Option Pair → ℕ
+    first (Some pair) = pair.0
+    first None = 0
 
-    second : Found → ℕ
-    second (At pair) = pair.1
-    second Nothing = 0
+    second : Option Pair → ℕ
+    second (Some pair) = pair.1
+    second None = 0
 placed_one {a = a} {b = b} true false p q = absurd ((q.none refl).0 a b (p.found refl).0)
 placed_one {x = x} {y = y} false true p q = absurd ((p.none refl).0 x y (q.found refl).0)
 placed_one false false p q = (refl, (p.none refl).1 ∙ sym (q.none refl).1, (p.none refl).2 ∙ sym (q.none refl).2)
@@ -85,7 +85,7 @@ placed_one false false p q = (refl, (p.none refl).1 ∙ sym (q.none refl).1, (p.
 -- ---- two decks
 module _ {id repair day : List ℕ} {deck from length deck' from' length' r : ℕ} where
   -- what is put, by the deck that has the group
-  pub located : (found : Extent) → Shows id repair day found (part_of found repair day) → (w : Which) → found.which ≡ w → r ≡ refusal_of w
+  pub located : (found : Extent) → Shows id repair day found (part_of found repair day) → (w : Result Which Refusal) → found.which ≡ w → r ≡ refusal_of w
       → deck' ≡ deck_or deck w → from' ≡ put_or from found.from w → length' ≡ put_or length found.len w
       → Located id repair day deck from length deck' from' length' r
   located found s w e n d a b = record {

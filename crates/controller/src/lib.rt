@@ -8,12 +8,11 @@ ghost use Rattle.configuration_listing.specs.Listing.{Listed};
 ghost use Rattle.schedule_deck.specs.Reading.{Reported};
 ghost use Rattle.numbers.specs.Kinds.{kind_of};
 ghost use Rattle.configuration.specs.Configured.{configuration_of};
-ghost use Rattle.controller.specs.Exports.{bad_line_of, legal_by, Placed, Located};
+ghost use Rattle.controller.specs.Exports.{bad_line_of, legal_by, deck_number, Placed, Located};
 
-use assign_core::Found;
-use configuration::TextVerdict;
+use channels::Configuration;
+use configuration::BadLine;
 use desk_show::Which;
-use numbers::Coded;
 
 // Puts the listing of a configuration into lent room and answers its length. 96 bytes are enough; a smaller room gets
 // what fits.
@@ -31,23 +30,21 @@ pub fn luffgravel_deck(deck: &[u8], out: &mut [u8; schedule_deck::ROOM]) -> usiz
     schedule_deck::report(deck, out)
 }
 
-// The number by which a verdict goes.
-fn bad_line_of(verdict: TextVerdict) -> usize
-    ensures { result ≡ bad_line_of verdict }
+// The number by which the reader's answer goes.
+fn bad_line_of(answer: Result<Configuration, BadLine>) -> usize
+    ensures { result ≡ bad_line_of answer }
 {
-    match verdict {
-        TextVerdict::Good => 0,
-        TextVerdict::Bad(line) => line,
+    match answer {
+        Ok(_) => 0,
+        Err(bad) => bad.0,
     }
 }
 
 // The first bad or missing line of a configuration, counted from 1; 0 where the text is one.
 pub fn luffgravel_bad_line(config: &[u8]) -> usize
-    ensures { result ≡ bad_line_of (configuration_of config.now).verdict }
+    ensures { result ≡ bad_line_of (configuration_of config.now) }
 {
-    let answer = configuration::read(config);
-    let verdict = answer.verdict;
-    bad_line_of(verdict)
+    bad_line_of(configuration::read(config))
 }
 
 // Whether a function code is legal on channels of the kind with this code of two letters; none is on any other's.
@@ -56,8 +53,8 @@ pub fn luffgravel_is_legal(first: u8, second: u8, function: u8) -> bool
 {
     let coded = numbers::kind_of(first, second);
     match coded {
-        Coded::Is(kind) => functions::legal(kind, function),
-        Coded::Unknown => false,
+        Some(kind) => functions::legal(kind, function),
+        None => false,
     }
 }
 
@@ -66,14 +63,22 @@ pub fn luffgravel_is_legal(first: u8, second: u8, function: u8) -> bool
 pub fn luffgravel_core(taken: u32, ib: u32, db: u32, i: &mut u32, j: &mut u32) -> bool
     ensures { Placed taken ib db i.old j.old i.new j.new result }
 {
-    let found = assign_core::search(taken, ib, db);
-    match found {
-        Found::At(pair) => {
-            *i = pair.0;
-            *j = pair.1;
-            true
-        }
-        Found::Nothing => false,
+    let Some(pair) = assign_core::search(taken, ib, db) else {
+        return false;
+    };
+    *i = pair.0;
+    *j = pair.1;
+    true
+}
+
+// The number of a deck: 1 the repair deck and 2 the day's.
+fn deck_number(which: Which) -> u8
+    ensures { result ≡ deck_number which }
+{
+    // Stays: these numbers are C's, and the crate desk_show has none.
+    match which {
+        Which::Repair => 1,
+        Which::Day => 2,
     }
 }
 
@@ -91,20 +96,13 @@ pub fn luffgravel_desk(
         deck.old from.old length.old deck.new from.new length.new result }
 {
     let found = desk_show::find(id, repair, day);
-    let which = found.which;
-    match which {
-        Which::Repair => {
-            *deck = 1;
+    match found.which {
+        Ok(which) => {
+            *deck = deck_number(which);
             *from = found.from;
             *length = found.len;
             0
         }
-        Which::Day => {
-            *deck = 2;
-            *from = found.from;
-            *length = found.len;
-            0
-        }
-        Which::Refused(refusal) => numbers::number_of(refusal),
+        Err(refusal) => numbers::number_of(refusal),
     }
 }

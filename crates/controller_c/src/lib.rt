@@ -28,7 +28,7 @@ pub extern "C" fn luffgravel_deck(deck: &[u8], out: &mut [u8; schedule_deck::ROO
 // The first bad or missing line of a configuration; 0 where the text is one.
 #[unsafe(no_mangle)]
 pub extern "C" fn luffgravel_bad_line(config: &[u8]) -> usize
-    ensures { result ≡ bad_line_of (configuration_of config.now).verdict }
+    ensures { result ≡ bad_line_of (configuration_of config.now) }
 {
     controller::luffgravel_bad_line(config)
 }

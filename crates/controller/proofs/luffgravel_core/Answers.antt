@@ -5,16 +5,16 @@ use Rattle.numbers.proofs.Tests.{never}
 use Rattle.assign_core.specs.Core.{LeastPair}
 use Rattle.controller.proofs.luffgravel_core.Goals as goal
 
-pub returns-in-At : goal.returns-in-At
-returns-in-At c =
+pub returns : goal.returns
+returns c =
     record {
-      found = λ e. subst (LeastPair c.args.taken c.args.ib c.args.db) c.in-At.is c.search-found.ensures;
+      found = λ e. subst (LeastPair c.args.taken c.args.ib c.args.db) c.in-Some.is c.search.ensures;
       none = λ e. never refl e;
     }
 
-pub returns-in-Nothing : goal.returns-in-Nothing
-returns-in-Nothing c =
+pub returns-in_default : goal.returns-in_default
+returns-in_default c =
     record {
       found = λ e. never e refl;
-      none = λ e. (subst (LeastPair c.args.taken c.args.ib c.args.db) c.in-Nothing.is c.search-found.ensures, refl, refl);
+      none = λ e. (subst (LeastPair c.args.taken c.args.ib c.args.db) c.in_default.is c.search.ensures, refl, refl);
     }
