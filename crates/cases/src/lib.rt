@@ -2,8 +2,7 @@
 // those that agree.
 #![tactic(auto)]
 
-ghost use Rattle.std.specs.Prelude.{◌≡◌, ℕ, ◌≤◌, Bool, false, List, length, take};
-ghost use Rattle.std.specs.Borrow.{Bor};
+ghost use Rattle.std.specs.Prelude.{◌≡◌, ℕ, ◌≤◌, Bool, true, false, List, length, take};
 ghost use Rattle.cases.specs.Tallies.{first_of, two_on, judged_of};
 
 use std::env::{Env, FillError};
@@ -18,6 +17,16 @@ const NAME: usize = 4096;
 pub struct Loaded {
     pub there: bool,
     pub len: usize,
+}
+
+// Cases that are run: an input, and whether what comes out of it is what must.
+pub trait Cases {
+    // What must come out of an input, as far as it is said.
+    ghost right: { List ℕ → List ℕ → Bool };
+
+    // Whether this comes out of this input.
+    fn agrees(&self, given: &[u8], due: &[u8]) -> bool
+        ensures { result ≡ true → right given.now due.now ≡ true };
 }
 
 // The argument that names the next case's input, how many arguments there are, and how many cases agree so far.
@@ -138,36 +147,34 @@ pub fn print(rt: &impl Print, tally: Tally) -> u64
 
 // Whether what comes of the input that argument i names is what the next argument's file has; a missing file is a
 // failure. Each file is put into a lent room.
-fn agrees_at<F: Fn(&[u8], &[u8]) -> bool>(
+fn agrees_at<C: Cases>(
     rt: &(impl Env + Files),
     i: usize,
     input: &mut [u8],
     wanted: &mut [u8],
-    agrees: &F,
+    cases: &C,
 ) -> bool
-    requires { F.IsAlwaysCallable agrees.now }
-    ensures { ((given due : Bor (List ℕ)) (answer : Bool) → F.post agrees.now given due answer → answer ≡ false) → result ≡ false }
+    ensures { ((given due : List ℕ) → C.right given due ≡ false) → result ≡ false }
 {
     let given = load(rt, i, input);
     let due = load(rt, i.wrapping_add(1), wanted);
-    given.there && due.there && agrees(&input[..given.len], &wanted[..due.len])
+    given.there && due.there && cases.agrees(&input[..given.len], &wanted[..due.len])
 }
 
 // Runs each case and prints how many agree: the arguments are the names of the inputs, each before what must come out.
-// Only a case is counted of which `agrees` says so, to the input and to what must come out.
-pub fn run<F: Fn(&[u8], &[u8]) -> bool>(
+// Only a case is counted that agrees.
+pub fn run<C: Cases>(
     rt: &(impl Env + Files + Print),
     input: &mut [u8],
     wanted: &mut [u8],
-    agrees: F,
+    cases: &C,
 ) -> u64
-    requires { F.IsAlwaysCallable agrees }
-    ensures { ((given due : Bor (List ℕ)) (answer : Bool) → F.post agrees given due answer → answer ≡ false) → result ≡ 0 }
+    ensures { ((given due : List ℕ) → C.right given due ≡ false) → result ≡ 0 }
 {
     let mut tally = first(rt);
     // Stays: the step is two arguments, and fewer at their end.
     while tally.at < tally.count {
-        let agree = agrees_at(rt, tally.at, input, wanted, &agrees);
+        let agree = agrees_at(rt, tally.at, input, wanted, cases);
         tally = judged(rt, tally, agree);
     }
     print(rt, tally)

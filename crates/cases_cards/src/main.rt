@@ -2,7 +2,10 @@
 // is printed piece by piece, and each piece is compared with what is left of the wanted text.
 #![tactic(auto)]
 
+ghost use Rattle.std.specs.Prelude.{true};
+
 use cards_report::Coming;
+use cases::Cases;
 
 // Whether what is printed of a deck is a text; the loop counts its turns down, as the program's does.
 fn prints(deck: &[u8], wanted: &[u8]) -> bool {
@@ -32,7 +35,18 @@ fn prints(deck: &[u8], wanted: &[u8]) -> bool {
     false
 }
 
+// Decks and what is printed of them.
+struct Decks;
+
+impl Cases for Decks {
+    ghost right = { λ _ _. true };
+
+    fn agrees(&self, given: &[u8], due: &[u8]) -> bool {
+        prints(given, due)
+    }
+}
+
 // Prints how many cases agree.
 fn main(rt: HostRuntime) {
-    cases::run(&rt, &mut [0u8; 65536], &mut [0u8; 65536], prints);
+    cases::run(&rt, &mut [0u8; 65536], &mut [0u8; 65536], &Decks);
 }

@@ -2,7 +2,9 @@
 // input is played whole, and then once more in pieces of seven bytes, which end within lines and termination cards.
 #![tactic(auto)]
 
-ghost use Rattle.std.specs.Prelude.{◌≤◌, ◌<◌};
+ghost use Rattle.std.specs.Prelude.{true, ◌≤◌, ◌<◌};
+
+use cases::Cases;
 
 // Where a piece of this size ends that starts before the end of an input.
 fn end_of(at: usize, size: usize, len: usize) -> usize
@@ -54,7 +56,18 @@ fn prints(input: &[u8], wanted: &[u8]) -> bool {
     input_lines::front(&said, pieces) == wanted
 }
 
+// A desk's inputs and what is printed of them.
+struct Desks;
+
+impl Cases for Desks {
+    ghost right = { λ _ _. true };
+
+    fn agrees(&self, given: &[u8], due: &[u8]) -> bool {
+        prints(given, due)
+    }
+}
+
 // Prints how many cases agree.
 fn main(rt: HostRuntime) {
-    cases::run(&rt, &mut [0u8; 65536], &mut [0u8; 65536], prints);
+    cases::run(&rt, &mut [0u8; 65536], &mut [0u8; 65536], &Desks);
 }

@@ -1,6 +1,9 @@
 // Runs each case of data/ and compares: the arguments are the names of the inputs, each before what must come out.
 #![tactic(auto)]
 
+ghost use Rattle.std.specs.Prelude.{true};
+
+use cases::Cases;
 use numbers::limits;
 use shift_turns::Shift;
 
@@ -58,7 +61,18 @@ fn says(script: &[u8], wanted: &[u8]) -> bool {
     input_lines::front(&said, length) == wanted
 }
 
+// Scripts and what is answered to them.
+struct Scripts;
+
+impl Cases for Scripts {
+    ghost right = { λ _ _. true };
+
+    fn agrees(&self, given: &[u8], due: &[u8]) -> bool {
+        says(given, due)
+    }
+}
+
 // Prints how many cases agree.
 fn main(rt: HostRuntime) {
-    cases::run(&rt, &mut [0u8; 65536], &mut [0u8; 65536], says);
+    cases::run(&rt, &mut [0u8; 65536], &mut [0u8; 65536], &Scripts);
 }
