@@ -8,13 +8,13 @@ use mathlib.Core.List.{List, [], ◌∷◌, ◌++◌, append_assoc, append-nil}
 use native.Mathlib.Nat.{eq-zero-or-pos, le_of_suc-le-suc}
 use native.Mathlib.Omega.{arith}
 use lib.Dec.{eqb, ltb}
-use lib.ListN.{length, get_or, drop, take, set, length-drop, length-append}
+use lib.ListN.{length, get_or, drop, take, set, drop_of_length-le, length-drop, length-append}
 use lib.Seq.{take_all}
 use borrow.Author.Tests.{ltb-true, ltb-false, eq-eqb, ne_eqb, eqb-true, eqb-false, le-ltb, lt-ltb, le-leb, lt-leb}
 use Rattle.numbers.proofs.Tests.{by_bool}
 use Rattle.numbers.specs.Limits.{card_length}
 use Rattle.words.specs.Words.{every, has, isnt, leading, same}
-use Rattle.words.proofs.WordLaws.{and-false, same-long}
+use Rattle.words.proofs.WordLaws.{drop-step, and-false, same-long}
 use Rattle.cards_fields.specs.Fields.{fields, field, field_is, field_of, pieces, spaceless, up_to_period, onto, padded, closed, card_byte, malformed}
 use Rattle.cards_fields.specs.declared.Field.{Field}
 use Rattle.cards_fields.specs.FieldBytes.{added, pushed}
@@ -111,6 +111,51 @@ space-or b = test (eqb b 32) refl
     test : (t : Bool) → eqb b 32 ≡ t → (b ≡ 32) ⊎ (b ≡ 32 → ⊥)
     test true e = inl (eqb-true b 32 e)
     test false e = inr (eqb-false b 32 e)
+
+-- past the end there is no field left
+pub field_end : (s : List ℕ) (i k : ℕ) → length s ≤ i → field (drop i s) k ≡ []
+field_end s i k h = rw (drop_of_length-le s h, fields-end) (no_field k)
+
+module _ (s : List ℕ) (i : ℕ) (h : i < length s) where
+  pub field-period : (k : ℕ) → get_or s i 0 ≡ 46 → field (drop i s) k ≡ []
+  field-period k e = rw (drop-step s i h, fields-period (drop (i + 1) s) e) (no_field k)
+
+  pub field-comma : (k : ℕ) → get_or s i 0 ≡ 44 → k ≡ 0 → field (drop i s) k ≡ []
+  field-comma k e z = rw (drop-step s i h, fields-comma (drop (i + 1) s) e, z)
+
+  pub field_next : (k : ℕ) → get_or s i 0 ≡ 44 → (k ≡ 0 → ⊥) → field (drop i s) k ≡ field (drop (i + 1) s) (k - 1)
+  field_next zero e z = absurd (z refl)
+  field_next (suc k) e z = let p : suc k - 1 ≡ k = omega arith in rw (drop-step s i h, fields-comma (drop (i + 1) s) e, p)
+
+  pub field_skip : (k : ℕ) → (get_or s i 0 ≡ 46 → ⊥) → (get_or s i 0 ≡ 44 → ⊥) → (k ≡ 0 → ⊥) → field (drop i s) k ≡ field (drop (i + 1) s) k
+  field_skip zero p c z = absurd (z refl)
+  field_skip (suc k) p c z =
+      ⊎_elim (λ e. rw (drop-step s i h, fields-space (drop (i + 1) s) e))
+      (λ q. rw (drop-step s i h, fields-other (drop (i + 1) s) p c q) (onto-later (get_or s i 0) k (fields (drop (i + 1) s))))
+      (space-or (get_or s i 0))
+
+  pub field-byte : (f : Field) (k : ℕ) → (get_or s i 0 ≡ 46 → ⊥) → (get_or s i 0 ≡ 44 → ⊥) → k ≡ 0
+      → added_all f (field (drop i s) k) ≡ added_all (pushed f (get_or s i 0)) (field (drop (i + 1) s) k)
+  field-byte f k p c z =
+      ⊎_elim (λ e. rw (z, drop-step s i h, fields-space (drop (i + 1) s) e, eq-eqb (get_or s i 0) 32 e))
+      (λ q. rw (z, drop-step s i h, fields-other (drop (i + 1) s) p c q, onto-first (get_or s i 0) (fields (drop (i + 1) s)), ne_eqb (get_or s i 0) 32 q))
+      (space-or (get_or s i 0))
+
+  pub count-period : get_or s i 0 ≡ 46 → length (fields (drop i s)) ≡ 1
+  count-period e = rw (drop-step s i h, fields-period (drop (i + 1) s) e)
+
+  pub count-comma : get_or s i 0 ≡ 44 → length (fields (drop i s)) ≡ length (fields (drop (i + 1) s)) + 1
+  count-comma e = rw (drop-step s i h, fields-comma (drop (i + 1) s) e) (omega arith)
+
+  pub count-other : (get_or s i 0 ≡ 46 → ⊥) → (get_or s i 0 ≡ 44 → ⊥) → length (fields (drop i s)) ≡ length (fields (drop (i + 1) s))
+  count-other p c =
+      ⊎_elim (λ e. rw (drop-step s i h, fields-space (drop (i + 1) s) e))
+      (λ q. rw (drop-step s i h, fields-other (drop (i + 1) s) p c q)
+      (onto-length (get_or s i 0) (fields (drop (i + 1) s)) (fields-some (drop (i + 1) s))))
+      (space-or (get_or s i 0))
+
+pub count-end : (s : List ℕ) (i : ℕ) → length s ≤ i → length (fields (drop i s)) ≡ 1
+count-end s i h = rw (drop_of_length-le s h, fields-end)
 
 -- a card's form: such characters alone, a period, and only spaces behind it
 closed-over : (s : List ℕ) → closed true s ≡ (every card_byte s && every (has (32 ∷ [])) s)

@@ -1,15 +1,19 @@
--- `cards_fields::card::is_malformed` meets its contract: its period found, every character looked at, and what stands
--- behind the period. Assumes nothing.
+-- `cards_fields::card::is_malformed` meets its contract: its length tested, its period found, every character looked at,
+-- and what stands behind the period. Assumes nothing.
 use Prim.Native.Nat.{◌+◌}
+use mathlib.Core.Path.{sym}
 use native.Mathlib.Omega.{arith}
-use Rattle.std.proofs.lemmas.Bool.Decides.{nat_tests}
 use Rattle.words.specs.Words.{isnt}
 use Rattle.words.proofs.WordLaws.{leading-most}
 use Rattle.cards_fields.proofs.FieldLaws.{too_long, no_period, by_parts, rest-is}
 use Rattle.cards_fields.proofs.card.is_malformed.Goals as goal
 
 pub returns-then-card-gt-CARD_LENGTH : goal.returns-then-card-gt-CARD_LENGTH
-returns-then-card-gt-CARD_LENGTH c = grind (arith, nat_tests, too_long, no_period)
+returns-then-card-gt-CARD_LENGTH c = sym (too_long c.args.card.now c.if-card-gt-CARD_LENGTH.true)
+
+pub returns-then-end-card : goal.returns-then-end-card
+returns-then-end-card c =
+    sym (no_period c.args.card.now c.until-end.result c.until-end.ensures c.if-card-gt-CARD_LENGTH.false c.if-end-card.true)
 
 pub overflow_add-end : goal.overflow_add-end
 overflow_add-end c = omega (arith, leading-most (isnt 46) c.args.card.now)
