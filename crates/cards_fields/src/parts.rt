@@ -28,7 +28,7 @@ pub fn piece_at(s: &[u8], cut: u8, k: usize) -> &[u8]
 pub fn cuts(s: &[u8], cut: u8) -> usize
     ensures { result + 1 ≡ length (pieces cut s.now) }
 {
-    s.iter().filter(|b| **b == cut).count()
+    s.iter().map(|b| (*b == cut) as usize).sum()
 }
 
 // The field at an index of a card as it stands there, its spaces in it, as a part of the card.
