@@ -2,15 +2,15 @@
 -- Assumes nothing.
 use Prim.Native.Nat.{ℕ, suc, ◌+◌, ◌≤◌, ◌<◌}
 use mathlib.Core.Path.{◌≡◌, refl, sym, ap, ◌∙◌}
-use mathlib.Core.Bool.{Bool, false, ◌&&◌, ◌||◌}
+use mathlib.Core.Bool.{Bool, false, not, ◌&&◌, ◌||◌}
 use mathlib.Core.List.{List, [], ◌∷◌}
 use native.Mathlib.Omega.{arith}
-use lib.Dec.{eqb}
+use lib.Dec.{eqb, leb}
 use lib.ListN.{length, get_or, drop, take, drop_of_length-le}
 use borrow.Author.Tests.{eq-eqb, ne_eqb, le-leb, lt-leb}
 use Rattle.numbers.proofs.Tests.{by_bool}
 use Rattle.text.specs.Class.{is_alnum, is_digit}
-use Rattle.words.specs.Words.{every, isnt, leading, number_in}
+use Rattle.words.specs.Words.{every, has, isnt, leading, number_in}
 use Rattle.words.proofs.WordLaws.{drop-step, leading-front, number-long}
 use denote.Ref.{Bor}
 use Rattle.std.specs.Prelude.{Option, Some, None, slice_get}
@@ -115,6 +115,12 @@ module _ (t : List ℕ) (f : Field) (is : f ≡ field_of t) where
 
   pub number-few : f.len ≤ 6 → number_in (take f.len f.bytes) ≡ number_in t
   number-few h = ap number_in (whole f t is (omega arith))
+
+-- something is left without the spaces where another byte stands
+pub some-spaceless : (s : List ℕ) → not (every (has (32 ∷ [])) s) ≡ leb 1 (length (spaceless s))
+some-spaceless [] = refl
+some-spaceless (b ∷ s) =
+    by_bool (eqb b 32) (λ e. rw e (some-spaceless s)) (λ e. rw (e, le-leb 1 (suc (length (spaceless s))) (omega arith)))
 
 -- digits, with spaces among them or without
 pub digits-spaceless : (s : List ℕ) → every (λ b. eqb b 32 || is_digit b) s ≡ every is_digit (spaceless s)

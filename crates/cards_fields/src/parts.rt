@@ -78,7 +78,7 @@ fn are_in_number(s: &[u8]) -> bool
 pub fn is_number(s: &[u8]) -> bool
     ensures { result ≡ digits (spaceless s.now) }
 {
-    0 < gathered(s).len && are_in_number(s)
+    !words::all_in(b" ", s) && are_in_number(s)
 }
 
 // The number that a text writes, its spaces dropped; 0 for one of over six characters.
