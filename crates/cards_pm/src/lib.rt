@@ -64,12 +64,15 @@ pub fn letters(card: &[u8]) -> &[u8]
     behind_comma(behind_comma(&card[..n]))
 }
 
-// Whether a PM card is malformed.
+// Whether a PM card is malformed. Its length comes first, so that a long card is not looked at.
 fn is_malformed(card: &[u8]) -> bool
     ensures { result ≡ pm_malformed card.now }
 {
+    if limits::CARD_LENGTH < card.len() || !card::are_card_bytes(card) {
+        return true;
+    }
     let n = body_len(card);
-    if limits::CARD_LENGTH < card.len() || !card::are_card_bytes(card) || n == card.len() {
+    if n == card.len() {
         return true;
     }
     !words::all_in(b" ", &card[n + 1..]) || !words::is_in(behind_comma(&card[..n]), b',')

@@ -11,7 +11,13 @@ use Rattle.cards_pm.proofs.PmLaws.{fault-long, fault-byte, fault-period, fault-b
 use Rattle.cards_pm.proofs.is_malformed.Goals as goal
 
 pub returns-then-card-gt-CARD_LENGTH : goal.returns-then-card-gt-CARD_LENGTH
-returns-then-card-gt-CARD_LENGTH c = grind (arith, nat_tests, fault-long, fault-byte, fault-period, period-none)
+returns-then-card-gt-CARD_LENGTH c = grind (arith, nat_tests, fault-long, fault-byte)
+
+pub returns-then-n-card : goal.returns-then-n-card
+returns-then-n-card c =
+    sym (fault-period c.args.card.now c.if-card-gt-CARD_LENGTH.false
+    (sym c.are_card_bytes.ensures ∙ c.if-not-are_card_bytes.false)
+    (period-none c.args.card.now (sym c.body_len-n.ensures ∙ c.if-n-card.true)))
 
 pub overflow_add-n : goal.overflow_add-n
 overflow_add-n c = omega (arith, c.body_len-n.ensures, body-most c.args.card.now, c.if-n-card.false)
