@@ -14,24 +14,28 @@ returns-then-b-eq46 c =
 
 pub returns-then-left-eq0 : goal.returns-then-left-eq0
 returns-then-left-eq0 c =
-    sym (ap (added_all c.loop-b.f) (field-comma c.args.card.now c.loop-b.b-index c.loop-b-test.true c.loop-b.left c.if-b-eq44.true c.if-left-eq0.true))
+    sym (ap (added_all c.loop-b.f) (field-comma c.args.card.now c.loop-b.b-index c.loop-b-test.true c.loop-b.left c.if-b-eq44.true
+    c.if-left-eq0.true))
     ∙ c.loop-b.invariant.1 ∙ gathered (field c.args.card.now c.args.k)
 
 pub loop-b-preserved : goal.loop-b-preserved
 loop-b-preserved c = elim c.if-b-eq44.branch [
   | then-b-eq44+else-left-eq0 w ↦ rw (w.f-is, w.left-is) (
     omega arith,
-    sym (ap (added_all c.loop-b.f) (field_next c.args.card.now c.loop-b.b-index c.loop-b-test.true c.loop-b.left w.if-b-eq44.true w.if-left-eq0.false))
+    sym (ap (added_all c.loop-b.f) (field_next c.args.card.now c.loop-b.b-index c.loop-b-test.true c.loop-b.left w.if-b-eq44.true
+        w.if-left-eq0.false))
         ∙ c.loop-b.invariant.1,
   )
   | else-b-eq44+then-left-eq0-2 w ↦ rw (w.f-is, w.left-is, w.with_byte-f.ensures) (
     omega (arith, pushed-len c.loop-b.f (get_or c.args.card.now c.loop-b.b-index 0)),
-    sym (field-byte c.args.card.now c.loop-b.b-index c.loop-b-test.true c.loop-b.f c.loop-b.left c.if-b-eq46.false w.if-b-eq44.false w.if-left-eq0-2.true)
+    sym (field-byte c.args.card.now c.loop-b.b-index c.loop-b-test.true c.loop-b.f c.loop-b.left c.if-b-eq46.false
+        w.if-b-eq44.false w.if-left-eq0-2.true)
         ∙ c.loop-b.invariant.1,
   )
   | else-b-eq44+else-left-eq0-2 w ↦ rw (w.f-is, w.left-is) (
     omega arith,
-    sym (ap (added_all c.loop-b.f) (field_skip c.args.card.now c.loop-b.b-index c.loop-b-test.true c.loop-b.left c.if-b-eq46.false w.if-b-eq44.false w.if-left-eq0-2.false))
+    sym (ap (added_all c.loop-b.f) (field_skip c.args.card.now c.loop-b.b-index c.loop-b-test.true c.loop-b.left c.if-b-eq46.false
+        w.if-b-eq44.false w.if-left-eq0-2.false))
         ∙ c.loop-b.invariant.1,
   )
 ]
