@@ -23,11 +23,11 @@ pub struct Picks {
     pub on: [ChannelNumber; 16],
 }
 
-// How many of a list are at least t.
+// How many of a list are at least t. Each adds 1 or 0, without a branch, so that the compiler can look at several at a time.
 fn count_ge(xs: &[u8], t: u8) -> usize
     ensures { result ≡ cnt t xs.now }
 {
-    xs.iter().filter(|x| t <= **x).count()
+    xs.iter().map(|x| (t <= *x) as usize).sum()
 }
 
 // The threshold test: whether each entry from a logical channel on can have a channel of its own.
