@@ -48,13 +48,13 @@ pub fn given_at(
     heads[index_of(channel, unit)].to
 }
 
-// How many units of a channel are assignable.
+// How many units of a channel are assignable. Each adds 1 or 0, without a branch.
 fn free_on(free: &[bool; 256], channel: ChannelNumber) -> u8
     requires { channel.0 < 16 }
     ensures { result ≡ how_many 16 (λ (u : ℕ). free_at free.now (channel.0 * 16 + u)) }
 {
     let first = index_of(channel, UnitNumber(0));
-    free[first..first + 16].iter().filter(|f| **f).count() as u8
+    free[first..first + 16].iter().map(|f| *f as u8).sum()
 }
 
 // The same for every channel.
