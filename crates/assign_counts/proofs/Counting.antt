@@ -23,8 +23,8 @@ use Rattle.assign_channels.specs.Choice.{by_channel, count_at}
 use Rattle.assign_heads.specs.Sums.{one, how_many}
 use Rattle.assign_heads.proofs.SumsLaws.{sum_same, sum-zero, sum-none, sum-front}
 use Rattle.std.specs.Prelude.{Option, Some, None}
-use Rattle.std.specs.List.{filter, range_with_len}
-use Rattle.std.proofs.lemmas.List.Sums.{length-filter, count_by-le-length}
+use Rattle.std.specs.List.{count_by, range_with_len}
+use Rattle.std.proofs.lemmas.List.Sums.{sum_by-cons, count_by-le-length}
 use Rattle.assign_free.specs.Assignable.{is_fitted, units_of_kind, is_free_of}
 use Rattle.assign_counts.specs.declared.Counts.{Counts}
 use Rattle.assign_counts.specs.Assignable.{count_on, counts_of, Counted, order_in, AssignableOn}
@@ -35,22 +35,23 @@ abbrev pub counts : List (List Unit) → ℕ → ℕ → ℕ → Bool
 counts grid c n u = ltb u n && assignable (unit_in grid c u)
 
 -- what passes of the k numbers from a on
-passing : (test : ℕ → Bool) (a k : ℕ) → length (filter test (range_with_len a k)) ≡ how_many k (λ u. test (a + u))
+passing : (test : ℕ → Bool) (a k : ℕ) → count_by test (range_with_len a k) ≡ how_many k (λ u. test (a + u))
 passing test a zero = sym (sum-none (λ u. one (test (a + u))))
 passing test a (suc k) =
     let e = sum-front k (λ u. one (test (a + u))) in
-    let z : a + 0 ≡ a = omega arith in
+    let z : one (test (a + 0)) ≡ one (test a) = ap (λ (x : ℕ). one (test x)) (omega arith) in
     let f : how_many k (λ u. test (a + 1 + u)) ≡ how_many k (λ u. test (a + suc u)) =
     sum_same k (λ u. one (test (a + 1 + u))) (λ u. one (test (a + suc u))) (λ u h. ap (λ (x : ℕ). one (test x)) (omega arith)) in
-    by_bool (test a)
-    (λ t. let o : one (test (a + 0)) ≡ 1 = ap (λ (x : ℕ). one (test x)) z ∙ ap one t in simp t (omega (arith, passing test (a + 1) k, e, f, o)))
-    (λ t. let o : one (test (a + 0)) ≡ 0 = ap (λ (x : ℕ). one (test x)) z ∙ ap one t in simp t (omega (arith, passing test (a + 1) k, e, f, o)))
+    omega (arith, sum_by-cons (λ u. one (test u)) a (range_with_len (a + 1) k), passing test (a + 1) k, e, f, z)
 
-pub all_seen : (grid : List (List Unit)) (c n : ℕ) {count : ℕ} → count ≡ length (filter (counts grid c n) (range_with_len 0 16)) → AssignableOn grid c n count
+pub few_seen : (grid : List (List Unit)) (c n : ℕ) → count_by (counts grid c n) (range_with_len 0 16) < 17
+few_seen grid c n = omega (arith, count_by-le-length (counts grid c n) (range_with_len 0 16))
+
+pub all_seen : (grid : List (List Unit)) (c n : ℕ) {count : ℕ} → count ≡ count_by (counts grid c n) (range_with_len 0 16) → AssignableOn grid c n count
 all_seen grid c n e = record {
   is = e ∙ passing (counts grid c n) 0 16
       ∙ sum_same 16 (λ u. one (counts grid c n (0 + u))) (λ u. one (counts grid c n u)) (λ u h. ap (λ (x : ℕ). one (counts grid c n x)) (omega arith));
-  few = omega (arith, e, length-filter (counts grid c n) (range_with_len 0 16), count_by-le-length (counts grid c n) (range_with_len 0 16));
+  few = omega (arith, e, few_seen grid c n);
 }
 
 -- ---- the channels

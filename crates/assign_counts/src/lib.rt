@@ -24,15 +24,15 @@ fn order_on(channel: Channel) -> usize
     }
 }
 
-// How many of the first n units of a channel are assignable.
+// How many of the first n units of a channel are assignable. Each adds 1 or 0, without a branch.
 fn assignable_on(grid: [[Unit; 16]; 16], channel: ChannelNumber, n: u32) -> u8
     requires { (channel.0 < 16) × Square grid }
     ensures { AssignableOn grid channel.0 n result }
 {
-    let row = grid[channel.0 as usize];
+    let row = &grid[channel.0 as usize];
     (0..16)
-        .filter(|u| *u < n && units::is_assignable(row[*u as usize]))
-        .count() as u8
+        .map(|u| (u < n && units::is_assignable(row[u as usize])) as u8)
+        .sum()
 }
 
 // The number of assignable units of every kind on every channel. A channel has units of one kind only.
