@@ -142,6 +142,9 @@ pub fn can_start(job: Job, e: u8, row: [Unit; 16], c: ChannelNumber) -> bool
 pub fn row_of(units: Units, c: ChannelNumber) -> [Unit; 16]
     ensures { RowOf units.of c.0 result }
 {
-    let row = units::grid_of(units).get(c.0 as usize).copied();
-    row.unwrap_or([units::fresh_unit(false); 16])
+    let grid = units::grid_of(units);
+    match grid.get(c.0 as usize) {
+        Some(row) => *row,
+        None => [units::fresh_unit(false); 16],
+    }
 }
