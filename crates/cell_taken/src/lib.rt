@@ -9,6 +9,7 @@ ghost use Rattle.cell_taken.specs.Taken.{in_blocks, core_of, area_of, any_has, o
 use assign_drum::Area;
 use numbers::limits;
 use packets::{Blocks, Core, Job};
+use std::array;
 
 // The blocks that the job of a place holds; none in an empty place, whatever the last job left there.
 fn core_of(job: Job) -> Core
@@ -26,7 +27,7 @@ fn core_of(job: Job) -> Core
 fn cores(jobs: [Job; 16]) -> [Core; 16]
     ensures { result ≡ map core_of jobs }
 {
-    jobs.map(|job| core_of(job))
+    array::from_fn(|i| core_of(jobs[i]))
 }
 
 // Whether a block is one of a run's.
@@ -110,7 +111,7 @@ fn area_of(job: Job) -> Area
 pub fn areas(jobs: [Job; 16]) -> [Area; 16]
     ensures { result ≡ map area_of jobs }
 {
-    jobs.map(|job| area_of(job))
+    array::from_fn(|i| area_of(jobs[i]))
 }
 
 // The lowest place without a job; none where all are taken.

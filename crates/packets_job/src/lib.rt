@@ -11,6 +11,7 @@ ghost use Rattle.packets_job.specs.Aims.{test_of, change_of, status_set, taken_j
 
 use numbers::{ChannelNumber, UnitNumber};
 use packets::{Aim, Blocks, Core, Job, JobState, Packet, Site, Spot, Status};
+use std::array;
 
 // A packet that was never submitted.
 fn blank() -> Packet
@@ -184,5 +185,5 @@ fn changed(p: Packet, aim: Aim) -> Packet
 pub fn all_changed(ps: [Packet; 16], aim: Aim) -> [Packet; 16]
     ensures { result ≡ map (restatus (test_of aim) (change_of aim)) ps }
 {
-    ps.map(|p| changed(p, aim))
+    array::from_fn(|i| changed(ps[i], aim))
 }
