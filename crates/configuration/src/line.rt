@@ -55,17 +55,17 @@ pub fn last_number(s: &[u8], low: u32, high: u32) -> Option<(u32, usize)>
     }
 }
 
-// Two digits, 00 to 15, with this byte behind them.
+// Two digits, 00 to 15, with this byte behind them. The byte is tested first: where it stands, so do those before it,
+// and no further test asks whether they do.
 #[tactic(auto, unfolding(crate::specs::Lines::up_to_15))]
 fn up_to_15(s: &[u8], end: u8) -> Option<u8>
     ensures { result ≡ up_to_15 end s.now }
 {
-    let (n, _) = text::two_digits(s)?;
-    if n <= 15 && text::byte_at(s, 2) == end {
-        Some(n as u8)
-    } else {
-        None
+    if text::byte_at(s, 2) != end {
+        return None;
     }
+    let (n, _) = text::two_digits(s)?;
+    if n <= 15 { Some(n as u8) } else { None }
 }
 
 // A line `cc KK n`.
